@@ -109,34 +109,18 @@ module _ {D A C : Type 0} (w : World D A C) (n : ℕ) (old new : Caller D A C) (
   abbrev Asked : Bool → Type 0
   Asked alive = IsRanked old.pass.me.0 new.pass.me.0 call Plain rank old.pass.me.0.holding (KnowsBefore w (λ service. alive ≡ is_alive service.store (key_of_operation (operation_of service old.number handle))))
 
+  as_decided : {P Q : List Entry → Entry → Type 0} (i : IsRanked old.pass.me.0 new.pass.me.0 call Plain rank old.pass.me.0.holding P) → Q i.before i.after.entry → IsRanked old.pass.me.0 new.pass.me.0 call Plain rank old.pass.me.0.holding Q
+  as_decided i decided = record { before = i.before; after = record { entry = i.after.entry; entered = i.after.entered; decided = decided } }
+
   pub asked_without : cell.lease ≡ None → IsRanked old.pass.me.0 new.pass.me.0 call Plain rank old.pass.me.0.holding (λ before e. Unit {0}) → Asked true
-  asked_without none i = record {
-    before = i.before;
-    after = record {
-      entry = i.after.entry;
-      entered = i.after.entered;
-      decided = alive_without w n old new r 1 call rank i.before i.after.entry (called old.pass.me.0 new.pass.me.0 call Plain rank old.pass.me.0.holding i.before i.after.entry i.after.entered) handle first last cell at none;
-    };
-  }
+  asked_without none i = as_decided i (alive_without w n old new r 1 call rank i.before i.after.entry (called i.after.entered) handle first last cell at none)
 
   pub asked_with : (lease : Reading) (answer : Result (Unit {0}) Status) (alive : Bool) → alive ≡ is_ok answer → cell.lease ≡ Some lease → LeavesAllKeys w old.pass.me.0 call →
       OnOk answer (IsRanked old.pass.me.0 new.pass.me.0 call Plain rank old.pass.me.0.holding (DecidesAfter w (λ m. HasNumber m lease.creation))) →
       OnErr answer (IsRanked old.pass.me.0 new.pass.me.0 call Plain rank old.pass.me.0.holding (DecidesAfter w (λ m. HasNumber m lease.creation → ⊥))) → Asked alive
-  asked_with lease (Ok u) alive tells leased leaves i gone = record {
-    before = i.before;
-    after = record {
-      entry = i.after.entry;
-      entered = i.after.entered;
-      decided = alive_with w n old new r 1 call rank i.before i.after.entry (called old.pass.me.0 new.pass.me.0 call Plain rank old.pass.me.0.holding i.before i.after.entry i.after.entered) handle first last cell at lease alive leased leaves
-          (λ yes. i.after.decided) (λ no. absurd (false≢true (sym no ∙ tells)));
-    };
-  }
-  asked_with lease (Err status) alive tells leased leaves there i = record {
-    before = i.before;
-    after = record {
-      entry = i.after.entry;
-      entered = i.after.entered;
-      decided = alive_with w n old new r 1 call rank i.before i.after.entry (called old.pass.me.0 new.pass.me.0 call Plain rank old.pass.me.0.holding i.before i.after.entry i.after.entered) handle first last cell at lease alive leased leaves
-          (λ yes. absurd (false≢true (sym tells ∙ yes))) (λ no. i.after.decided);
-    };
-  }
+  asked_with lease (Ok u) alive tells leased leaves i gone =
+      as_decided i (alive_with w n old new r 1 call rank i.before i.after.entry (called i.after.entered) handle first last cell at lease alive leased leaves
+      (λ yes. i.after.decided) (λ no. absurd (false≢true (sym no ∙ tells))))
+  asked_with lease (Err status) alive tells leased leaves there i =
+      as_decided i (alive_with w n old new r 1 call rank i.before i.after.entry (called i.after.entered) handle first last cell at lease alive leased leaves
+      (λ yes. absurd (false≢true (sym tells ∙ yes))) (λ no. i.after.decided))

@@ -1,14 +1,14 @@
 -- A caller after a setup.
-use Rattle.std.proofs.Common.{All, Err, List, None, Ok, Result, [], ap, arith, cond, count_by, false, get_or, length, not, refl, subst, sym, true, vec_capacity, ℕ, ◌+◌, ◌-◌, ◌<◌, ◌^◌, ◌∙◌, ◌∷◌, ◌≡◌, ◌≤◌}
-use Rattle.callers.proofs.Common.{After, AnswersReply, AreOperations, ArePairs, Caller, Cell, DecidesAfter, Entry, FaultMark, HandleOperation, Held, HoldsLease, Inactive, IsAnswered, IsAt, IsCalled, IsChanged, IsClear, IsEntered, IsLent, IsOperation, IsOwnPart, IsReady, IsRefused, KeyUse, Keyed, KeyedSetup, Keyless, KeylessSetup, KnowsBefore, Legal, OnHandle, Output, Pairs, Plain, Reading, ReadsKey, Request, Served, Setup, Status, TellsFailure, World, applied, buffer_after, busy, entries_of, failure_marked, id_read, is_inactive, lease_pair, leases_of, mark_of, may_change_keys, model_setup, operation_at, operation_of, outcome_of, own_of, plain_reply, refusal_without_key, replay, set-get_or, set_up_by, set_up_with_key, set_up_without_key, setups, stays, use_refusal, used_for, with_operation_at, work_without_key}
+use Rattle.std.proofs.Common.{Err, List, None, Ok, Result, ap, arith, cond, count_by, false, get_or, length, not, refl, subst, sym, true, ℕ, ◌+◌, ◌-◌, ◌<◌, ◌^◌, ◌∙◌, ◌∷◌, ◌≡◌, ◌≤◌}
+use Rattle.callers.proofs.Common.{After, AnswersReply, AreOperations, ArePairs, Caller, Cell, DecidesAfter, Entry, FaultMark, HandleOperation, Held, HoldsLease, Inactive, IsAnswered, IsAt, IsCalled, IsChanged, IsEntered, IsLent, IsOperation, IsReady, IsRefused, KeyUse, Keyed, KeyedSetup, Keyless, KeylessSetup, KnowsBefore, Legal, OnHandle, Output, Pairs, Plain, Reading, ReadsKey, Request, Setup, Status, TellsFailure, World, applied, buffer_after, busy, entries_of, failure_marked, id_read, is_inactive, lease_pair, leases_of, mark_of, may_change_keys, model_setup, operation_at, operation_of, outcome_of, plain_reply, refusal_without_key, replay, set-get_or, set_up_by, set_up_with_key, set_up_without_key, setups, stays, use_refusal, used_for, with_operation_at, work_without_key}
 use Rattle.std.specs.Result.{is_ok}
 use Rattle.psa_status.specs.declared.Status.TheVariants as status
 use Rattle.service_calls.specs.declared.output.Output.TheVariants as output
 use Rattle.callers.proofs.CellLists.{busy_put, cell_at, few, once, tally-cons}
 use Rattle.callers.proofs.Failing.{answers_plain, set_up_plainly}
 use Rattle.callers.proofs.Journeys.{called}
-use Rattle.callers.proofs.Owned.{applied_own}
-use Rattle.callers.proofs.Readying.{known, outcome_is, own_there, ready}
+use Rattle.callers.proofs.Looking.{AreSpares, same_spares}
+use Rattle.callers.proofs.Readying.{applied_answered, applied_there, known, outcome_is, own_there, ready}
 use Rattle.callers.proofs.Storing.{decided_after}
 use Rattle.callers.proofs.SettingUp.{begun_lent, counts, draws_none, quiet, reads, set_up_lent, set_up_refused, set_up_twice, still}
 
@@ -23,179 +23,151 @@ pub at_handle : (P : HandleOperation → Type 0) (cells : List Cell) (operations
 at_handle P cells operations handle are first last says =
     let at = cell_at cells (handle - 1) (let z = are.cells_are in omega arith) in says at.0 (operation_at operations handle) at.1 (are.each (handle - 1) at.0 (omega arith) at.1)
 
-module _ {D A C : Type 0} (w : World D A C) (old new : Caller D A C) (r : IsReady w 4 old) (request : Request) (mark : FaultMark) (rank : ℕ) (own : Pairs) (before : List Entry) (e : Entry)
-    (i : IsEntered old.pass.me.0 new.pass.me.0 request mark rank own before e) where
+module _ {D A C : Type 0} (w : World D A C) (old new : Caller D A C) (r : IsReady w 4 old) {request : Request} {mark : FaultMark} {rank : ℕ} {own : Pairs} {before : List Entry} {e : Entry}
+    (i : IsEntered old.pass.me.0 new.pass.me.0 request mark rank own before e) {handle : ℕ} (first : 1 ≤ handle) (last : handle ≤ 4) where
   abbrev made : IsCalled old.pass.me.0 new.pass.me.0 1 request mark rank before e
-  made = called old.pass.me.0 new.pass.me.0 request mark rank own before e i
+  made = called i
 
-  module _ (handle : ℕ) (first : 1 ≤ handle) (last : handle ≤ 4) where
-    -- what the one-thread service makes of a setup
-    pub sets_up : (s : Setup) → request ≡ OnHandle handle (model_setup s) → mark ≡ Plain →
-        KnowsBefore w (λ service. outcome_of service e ≡ applied service old.number handle (set_up_by service.store (operation_at r.operations handle) s)) before e
-    sets_up s asks plain start is tells =
+  -- what the one-thread service makes of a setup
+  pub sets_up : (s : Setup) → request ≡ OnHandle handle (model_setup s) → mark ≡ Plain →
+      KnowsBefore w (λ service. outcome_of service e ≡ applied service old.number handle (set_up_by service.store (operation_at r.operations handle) s)) before e
+  sets_up s asks plain start is tells =
+      let service = replay start before in
+      let mine = (known w 4 old new r 1 request mark rank before e made start is tells).own.each handle first last in
+      outcome_is service e old.number (OnHandle handle (model_setup s)) Plain (i.by ∙ r.number) (i.call_is ∙ asks) (i.mark_is ∙ plain)
+      ∙ (setups service old.number handle s ∙ (λ j. applied service old.number handle (set_up_by service.store (mine j) s)))
+
+  module _ (after : After Held) (applies : KnowsBefore w (λ service. outcome_of service e ≡ applied service old.number handle after) before e) where
+    -- what such a call changes of a caller beside its pass and its cells, where so many leases are kept and it counts so often
+    pub record IsBegun (lent more : ℕ) : Type 0 where
+      pub number : new.number ≡ old.number
+      pub stream : new.stream ≡ old.stream
+      pub spent : new.spent ≡ old.spent + more
+      pub spares : AreSpares lent old.spares new.spares
+      pub drawn : after.drawn ≡ 0
+      pub few : more ≤ 1
+      pub waits : busy (with_operation_at r.operations handle after.operation) ≤ busy r.operations + more
+
+    begun_ready : {lent more : ℕ} → IsBegun lent more → AreOperations new.handles.cells.items (with_operation_at r.operations handle after.operation) → ArePairs own (leases_of new.handles.cells.items) →
+        length (leases_of new.handles.cells.items) ≡ length (leases_of old.handles.cells.items) + lent → old.spent + more ≤ 2 ^ 48 → IsAt w new.pass → Legal w (entries_of new.pass.me.0.seen) → IsReady w 0 new
+    begun_ready b stand leases count worn at legal =
+        let left = i.on.turns_left in let spent = b.spent in let few = b.few in let place = ap (λ s. s.place) b.stream in
+        ready w 4 old new r 1 request mark rank before e made (with_operation_at r.operations handle after.operation) 0 at legal (record {
+          number = b.number;
+          stand = stand;
+          own = applied_there w 4 old new r 1 request mark rank before e made first last after applies (place ∙ still old.stream.place after.drawn b.drawn);
+          leases = λ f. ap (count_by f) i.holding ∙ leases f;
+          clear = b.spares.clear;
+          five = let m = b.spares.many in let f = r.five in omega (arith, count);
+          room = let a = b.spares.room in let f = r.room in omega arith;
+          seed = ap (λ s. s.seed) b.stream;
+          stream_of = ap (λ s. s.caller) b.stream;
+          turns_are = let t = r.turns in let z = b.waits in omega arith;
+          words = let t = r.words in omega arith;
+          spent = omega arith;
+        })
+
+    pub changed_ready : {more : ℕ} → IsBegun 0 more → IsChanged old.handles.cells.items new.handles.cells.items r.operations handle after.operation None → own ≡ old.pass.me.0.holding → old.spent + more ≤ 2 ^ 48 → IsAt w new.pass → Legal w (entries_of new.pass.me.0.seen) → IsReady w 0 new
+    changed_ready b change held = begun_ready b change.stand (λ f. ap (count_by f) held ∙ (r.leases f ∙ sym (change.leases f))) (let a = change.fewer in omega arith)
+
+    pub kept_ready : {more : ℕ} {lease : Reading} → IsBegun 1 more → HoldsLease old.handles.cells.items new.handles.cells.items r.operations handle after.operation lease → own ≡ lease_pair lease ∷ old.pass.me.0.holding → old.spent + more ≤ 2 ^ 48 → IsAt w new.pass → Legal w (entries_of new.pass.me.0.seen) → IsReady w 0 new
+    kept_ready {lease = lease} b kept held = begun_ready b kept.stand (λ f.
+        let a = ap (count_by f) held in let b = tally-cons f (lease_pair lease) old.pass.me.0.holding in let c = tally-cons f (lease_pair lease) (leases_of old.handles.cells.items) in
+        let d = r.leases f in let k = kept.leases f in omega arith) kept.more
+
+    pub begun_answered : (result : Result Output Status) → TellsFailure w result mark → AnswersReply result after.reply → ((buffer : List ℕ) → buffer ≡ buffer_after buffer after.reply) →
+        (buffer : List ℕ) → IsAnswered w old.pass.me.0 new.pass.me.0 request rank result buffer buffer
+    begun_answered result failure answers unwritten buffer = applied_answered w 4 old new r 1 request mark rank before e made first last after applies result buffer buffer failure answers (unwritten buffer)
+
+  pub twice : (s : Setup) → request ≡ OnHandle handle (model_setup s) → mark ≡ Plain → is_inactive (operation_at r.operations handle) ≡ false →
+      KnowsBefore w (λ service. outcome_of service e ≡ applied service old.number handle (stays (operation_at r.operations handle) status.BadState)) before e
+  twice s asks plain begun start is tells =
+      sets_up s asks plain start is tells ∙ ap (applied (replay start before) old.number handle) (set_up_twice (replay start before).store (operation_at r.operations handle) s begun)
+
+  -- a setup without a key
+  module _ (s : KeylessSetup) (asks : request ≡ OnHandle handle (model_setup (Keyless s))) (plain : mark ≡ Plain) where
+    abbrev bare : After Held
+    bare = set_up_without_key (operation_at r.operations handle) s
+
+    pub bare_ready : (result : Result (Unit {0}) Status) → plain_reply result ≡ bare.reply → operation_at r.operations handle ≡ Inactive → IsChanged old.handles.cells.items new.handles.cells.items r.operations handle bare.operation None →
+        own ≡ old.pass.me.0.holding → new.number ≡ old.number → new.stream ≡ old.stream → new.spares ≡ old.spares → new.spent ≡ old.spent + cond (is_ok result) 1 0 → old.spent < 2 ^ 48 → IsAt w new.pass →
+        Legal w (entries_of new.pass.me.0.seen) → IsReady w 0 new
+    bare_ready result reply free change held number stream spares spent worn = changed_ready bare (sets_up (Keyless s) asks plain) (record {
+      number = number;
+      stream = stream;
+      spent = spent;
+      spares = same_spares r.clear spares;
+      drawn = draws_none (operation_at r.operations handle) (refusal_without_key s) (record { key = None; work = work_without_key s });
+      few = few (is_ok result);
+      waits = waits_by r.operations handle bare.operation (once (is_ok result)) last first r.stand.count free
+          (subst (λ o. once (not (is_inactive (set_up_without_key o s).operation)) ≤ once (is_ok result)) (sym free)
+          (counts (refusal_without_key s) (record { key = None; work = work_without_key s }) result (reply ∙ ap (λ o. (set_up_without_key o s).reply) free)));
+    }) change held (let f = few (is_ok result) in omega arith)
+
+    pub bare_answered : (result : Result Output Status) → AnswersReply result bare.reply → ((buffer : List ℕ) → buffer ≡ buffer_after buffer bare.reply) → (buffer : List ℕ) → IsAnswered w old.pass.me.0 new.pass.me.0 request rank result buffer buffer
+    bare_answered result answers =
+        begun_answered bare (sets_up (Keyless s) asks plain) result
+        (λ start is. answers_plain result bare.reply answers (set_up_plainly (operation_at r.operations handle) s _) ∙ ap failure_marked (sym plain)) answers
+
+  -- a setup that leaves the operation
+  module _ (o : HandleOperation) (there : operation_at r.operations handle ≡ o) (why : Status) (applies : KnowsBefore w (λ service. outcome_of service e ≡ applied service old.number handle (stays o why)) before e) where
+    same_operations : with_operation_at r.operations handle o ≡ r.operations
+    same_operations = ap (with_operation_at r.operations handle) (sym there) ∙ set-get_or r.operations (handle - 1) Inactive
+
+    pub stayed_ready : own ≡ old.pass.me.0.holding → new.number ≡ old.number → new.stream ≡ old.stream → new.handles ≡ old.handles → new.spent ≡ old.spent → AreSpares 0 old.spares new.spares → old.spent < 2 ^ 48 → IsAt w new.pass →
+        Legal w (entries_of new.pass.me.0.seen) → IsReady w 0 new
+    stayed_ready held number stream handles spent spares worn = begun_ready (stays o why) applies {lent = 0} {more = 0} (record {
+      number = number;
+      stream = stream;
+      spent = let z = spent in omega arith;
+      spares = spares;
+      drawn = refl;
+      few = omega arith;
+      waits = let b = ap busy same_operations in omega arith;
+    }) (subst (λ h. AreOperations h.cells.items (with_operation_at r.operations handle o)) (sym handles) (subst (AreOperations old.handles.cells.items) (sym same_operations) r.stand))
+        (λ f. ap (count_by f) held ∙ (r.leases f ∙ ap (λ h. count_by f (leases_of h.cells.items)) (sym handles))) (let a = ap (λ h. length (leases_of h.cells.items)) handles in omega arith) (omega arith)
+
+    pub stayed_answered : TellsFailure w (Err why) mark → (buffer : List ℕ) → IsAnswered w old.pass.me.0 new.pass.me.0 request rank (Err why) buffer buffer
+    stayed_answered failure = begun_answered (stays o why) applies (Err why) failure (refl, refl) (λ buffer. refl)
+
+  -- a setup with its key
+  module _ (s : KeyedSetup) (wanted : KeyUse) (asks : request ≡ OnHandle handle (model_setup (Keyed s))) (uses : wanted ≡ used_for s.purpose s.alg) (free : operation_at r.operations handle ≡ Inactive) where
+    unchanging : may_change_keys e.call ≡ false
+    unchanging = ap may_change_keys (i.call_is ∙ asks) ∙ quiet handle (Keyed s)
+
+    pub refuses : (why : Status) → mark ≡ mark_of why → DecidesAfter w (IsRefused (use_refusal wanted) s.key.0 why) before e →
+        KnowsBefore w (λ service. outcome_of service e ≡ applied service old.number handle (stays Inactive why)) before e
+    refuses why marked decided start is tells =
         let service = replay start before in
         let k = known w 4 old new r 1 request mark rank before e made start is tells in
-        let mine = k.own.each handle first last in
-        outcome_is service e old.number (OnHandle handle (model_setup s)) Plain (i.by ∙ r.number) (i.call_is ∙ asks) (i.mark_is ∙ plain)
-        ∙ (setups service old.number handle s ∙ (λ j. applied service old.number handle (set_up_by service.store (mine j) s)))
+        let row = decided_after w (IsRefused (use_refusal wanted) s.key.0 why) before e unchanging decided start is tells in
+        outcome_is service e old.number (OnHandle handle (model_setup (Keyed s))) (mark_of why) (i.by ∙ r.number) (i.call_is ∙ asks) (i.mark_is ∙ marked)
+        ∙ set_up_refused service old.number handle s wanted why uses (k.own.each handle first last ∙ free) row
 
-    module _ (after : After Held) (applies : KnowsBefore w (λ service. outcome_of service e ≡ applied service old.number handle after) before e) where
-      -- what a setup changes of a caller beside its pass
-      pub record IsBegun (more : ℕ) : Type 0 where
-        pub number : new.number ≡ old.number
-        pub stream : new.stream ≡ old.stream
-        pub drawn : after.drawn ≡ 0
-        pub stand : AreOperations new.handles.cells.items (with_operation_at r.operations handle after.operation)
-        pub leases : ArePairs own (leases_of new.handles.cells.items)
-        pub clear : All IsClear new.spares.items
-        pub five : length (leases_of new.handles.cells.items) + length new.spares.items ≡ 5
-        pub room : 5 ≤ vec_capacity new.spares
-        pub waits : busy (with_operation_at r.operations handle after.operation) ≤ busy r.operations + more
-        pub few : more ≤ 1
-        pub spent : new.spent ≡ old.spent + more
+    module _ (lease : Reading) (plain : mark ≡ Plain) (decided : DecidesAfter w (IsLent (use_refusal wanted) s.key.0 lease) before e) where
+      abbrev begun : After Held
+      begun = begun_lent s lease
 
-      pub begun_ready : (more : ℕ) → IsBegun more → old.spent + more ≤ 2 ^ 48 → IsAt w new.pass → Legal w (entries_of new.pass.me.0.seen) → IsReady w 0 new
-      begun_ready more b worn at legal =
-          let left = i.on.turns_left in let spent = b.spent in let few = b.few in let place = ap (λ s. s.place) b.stream in let drawn = b.drawn in
-          ready w 4 old new r 1 request mark rank before e made (with_operation_at r.operations handle after.operation) 0 at legal (record {
-            number = b.number;
-            stand = b.stand;
-            own = λ start is tells.
-                let service = replay start before in
-                let k = known w 4 old new r 1 request mark rank before e made start is tells in
-                subst (λ (s : Served). IsOwnPart (with_operation_at r.operations handle after.operation) new.stream.place (own_of s.service old.number)) (sym (applies start is tells))
-                (applied_own service old.number handle after r.operations old.stream.place new.stream.place k.sound r.last k.own r.stand.count first last (place ∙ still old.stream.place after.drawn drawn));
-            leases = λ f. ap (count_by f) i.holding ∙ b.leases f;
-            clear = b.clear;
-            five = b.five;
-            room = b.room;
-            seed = ap (λ s. s.seed) b.stream;
-            stream_of = ap (λ s. s.caller) b.stream;
-            turns_are = let t = r.turns in let z = b.waits in omega arith;
-            words = let t = r.words in omega arith;
-            spent = omega arith;
-          })
-
-      pub begun_answered : (result : Result Output Status) (buffer : List ℕ) → TellsFailure w result mark → AnswersReply result after.reply → buffer ≡ buffer_after buffer after.reply →
-          IsAnswered w old.pass.me.0 new.pass.me.0 request rank result buffer buffer
-      begun_answered result buffer failure answers unwritten = record {
-        turns = 1;
-        mark = mark;
-        before = before;
-        entry = e;
-        called = made;
-        failure = failure;
-        replied = λ start is tells told.
-            let same : after.reply ≡ (outcome_of (replay start before) e).reply = sym (ap (λ (s : Served). s.reply) (applies start is tells)) in
-            (subst (AnswersReply result) same answers, unwritten ∙ ap (buffer_after buffer) same);
-      }
-
-    pub twice : (s : Setup) → request ≡ OnHandle handle (model_setup s) → mark ≡ Plain → is_inactive (operation_at r.operations handle) ≡ false →
-        KnowsBefore w (λ service. outcome_of service e ≡ applied service old.number handle (stays (operation_at r.operations handle) status.BadState)) before e
-    twice s asks plain begun start is tells =
-        sets_up s asks plain start is tells ∙ ap (applied (replay start before) old.number handle) (set_up_twice (replay start before).store (operation_at r.operations handle) s begun)
-
-    -- a setup without a key
-    module _ (s : KeylessSetup) (asks : request ≡ OnHandle handle (model_setup (Keyless s))) (plain : mark ≡ Plain) where
-      abbrev bare : After Held
-      bare = set_up_without_key (operation_at r.operations handle) s
-
-      bare_applies : KnowsBefore w (λ service. outcome_of service e ≡ applied service old.number handle bare) before e
-      bare_applies = sets_up (Keyless s) asks plain
-
-      pub bare_ready : (result : Result (Unit {0}) Status) → plain_reply result ≡ bare.reply → operation_at r.operations handle ≡ Inactive → IsChanged old.handles.cells.items new.handles.cells.items r.operations handle bare.operation None →
-          own ≡ old.pass.me.0.holding → new.number ≡ old.number → new.stream ≡ old.stream → new.spares ≡ old.spares → new.spent ≡ old.spent + cond (is_ok result) 1 0 → old.spent < 2 ^ 48 → IsAt w new.pass →
-          Legal w (entries_of new.pass.me.0.seen) → IsReady w 0 new
-      bare_ready result reply free change held number stream spares spent worn = begun_ready bare bare_applies (once (is_ok result)) (record {
-        number = number;
-        stream = stream;
-        drawn = draws_none (operation_at r.operations handle) (refusal_without_key s) (record { key = None; work = work_without_key s });
-        stand = change.stand;
-        leases = λ f. ap (count_by f) held ∙ (r.leases f ∙ sym (change.leases f));
-        clear = subst (λ v. All IsClear v.items) (sym spares) r.clear;
-        five = let a = change.fewer in let b = ap (λ v. length v.items) spares in let f = r.five in omega arith;
-        room = let a = ap vec_capacity spares in let f = r.room in omega arith;
-        waits = waits_by r.operations handle bare.operation (once (is_ok result)) last first r.stand.count free
-            (subst (λ o. once (not (is_inactive (set_up_without_key o s).operation)) ≤ once (is_ok result)) (sym free)
-            (counts (refusal_without_key s) (record { key = None; work = work_without_key s }) result (reply ∙ ap (λ o. (set_up_without_key o s).reply) free)));
-        few = few (is_ok result);
-        spent = spent;
-      }) (let f = few (is_ok result) in omega arith)
-
-      pub bare_answered : (result : Result Output Status) (buffer : List ℕ) → AnswersReply result bare.reply → buffer ≡ buffer_after buffer bare.reply → IsAnswered w old.pass.me.0 new.pass.me.0 request rank result buffer buffer
-      bare_answered result buffer answers =
-          begun_answered bare bare_applies result buffer
-          (λ start is. answers_plain result bare.reply answers (set_up_plainly (operation_at r.operations handle) s _) ∙ ap failure_marked (sym plain)) answers
-
-    -- a setup that leaves the operation
-    module _ (o : HandleOperation) (there : operation_at r.operations handle ≡ o) (why : Status) (applies : KnowsBefore w (λ service. outcome_of service e ≡ applied service old.number handle (stays o why)) before e) where
-      same_operations : with_operation_at r.operations handle o ≡ r.operations
-      same_operations = ap (with_operation_at r.operations handle) (sym there) ∙ set-get_or r.operations (handle - 1) Inactive
-
-      pub stayed_ready : own ≡ old.pass.me.0.holding → new.number ≡ old.number → new.stream ≡ old.stream → new.handles ≡ old.handles → new.spent ≡ old.spent → All IsClear new.spares.items → length new.spares.items ≡ length old.spares.items →
-          5 ≤ vec_capacity new.spares → old.spent < 2 ^ 48 → IsAt w new.pass → Legal w (entries_of new.pass.me.0.seen) → IsReady w 0 new
-      stayed_ready held number stream handles spent clear many room worn = begun_ready (stays o why) applies 0 (record {
-        number = number;
-        stream = stream;
-        drawn = refl;
-        stand = subst (λ h. AreOperations h.cells.items (with_operation_at r.operations handle o)) (sym handles) (subst (AreOperations old.handles.cells.items) (sym same_operations) r.stand);
-        leases = λ f. ap (count_by f) held ∙ (r.leases f ∙ ap (λ h. count_by f (leases_of h.cells.items)) (sym handles));
-        clear = clear;
-        five = let a = ap (λ h. length (leases_of h.cells.items)) handles in let f = r.five in let m = many in omega arith;
-        room = room;
-        waits = let b = ap busy same_operations in omega arith;
-        few = omega arith;
-        spent = let z = spent in omega arith;
-      }) (omega arith)
-
-      pub stayed_answered : (buffer : List ℕ) → TellsFailure w (Err why) mark → IsAnswered w old.pass.me.0 new.pass.me.0 request rank (Err why) buffer buffer
-      stayed_answered buffer failure = begun_answered (stays o why) applies (Err why) buffer failure (refl, refl) refl
-
-    -- a setup with its key
-    module _ (s : KeyedSetup) (wanted : KeyUse) (asks : request ≡ OnHandle handle (model_setup (Keyed s))) (uses : wanted ≡ used_for s.purpose s.alg) (free : operation_at r.operations handle ≡ Inactive) where
-      unchanging : may_change_keys e.call ≡ false
-      unchanging = ap may_change_keys (i.call_is ∙ asks) ∙ quiet handle (Keyed s)
-
-      pub refuses : (why : Status) → mark ≡ mark_of why → DecidesAfter w (IsRefused (use_refusal wanted) s.key.0 why) before e →
-          KnowsBefore w (λ service. outcome_of service e ≡ applied service old.number handle (stays Inactive why)) before e
-      refuses why marked decided start is tells =
+      lends : KnowsBefore w (λ service. outcome_of service e ≡ applied service old.number handle begun) before e
+      lends start is tells =
           let service = replay start before in
-          let k = known w 4 old new r 1 request mark rank before e made start is tells in
-          let row = decided_after w (IsRefused (use_refusal wanted) s.key.0 why) before e unchanging decided start is tells in
-          outcome_is service e old.number (OnHandle handle (model_setup (Keyed s))) (mark_of why) (i.by ∙ r.number) (i.call_is ∙ asks) (i.mark_is ∙ marked)
-          ∙ set_up_refused service old.number handle s wanted why uses (k.own.each handle first last ∙ free) row
+          let lent = decided_after w (IsLent (use_refusal wanted) s.key.0 lease) before e unchanging decided start is tells in
+          sets_up (Keyed s) asks plain start is tells ∙ ap (applied service old.number handle) (ap (λ o. set_up_with_key service.store o s) free ∙ set_up_lent service.store s wanted lease uses lent)
 
-      module _ (lease : Reading) (plain : mark ≡ Plain) (decided : DecidesAfter w (IsLent (use_refusal wanted) s.key.0 lease) before e) where
-        abbrev begun : After Held
-        begun = begun_lent s lease
+      pub lent_ready : HoldsLease old.handles.cells.items new.handles.cells.items r.operations handle begun.operation lease → own ≡ lease_pair lease ∷ old.pass.me.0.holding →
+          new.number ≡ old.number → new.stream ≡ old.stream → new.spent ≡ old.spent + 1 → AreSpares 1 old.spares new.spares → old.spent < 2 ^ 48 → IsAt w new.pass → Legal w (entries_of new.pass.me.0.seen) → IsReady w 0 new
+      lent_ready kept held number stream spent spares worn = kept_ready begun lends (record {
+        number = number;
+        stream = stream;
+        spent = spent;
+        spares = spares;
+        drawn = refl;
+        few = omega arith;
+        waits = waits_by r.operations handle begun.operation 1 last first r.stand.count free (omega arith);
+      }) kept held (omega arith)
 
-        lends : KnowsBefore w (λ service. outcome_of service e ≡ applied service old.number handle begun) before e
-        lends start is tells =
-            let service = replay start before in
-            let lent = decided_after w (IsLent (use_refusal wanted) s.key.0 lease) before e unchanging decided start is tells in
-            sets_up (Keyed s) asks plain start is tells ∙ ap (applied service old.number handle) (ap (λ o. set_up_with_key service.store o s) free ∙ set_up_lent service.store s wanted lease uses lent)
-
-        pub lent_ready : HoldsLease old.handles.cells.items new.handles.cells.items r.operations handle begun.operation lease → own ≡ lease_pair lease ∷ old.pass.me.0.holding →
-            new.number ≡ old.number → new.stream ≡ old.stream → new.spent ≡ old.spent + 1 → All IsClear new.spares.items → length new.spares.items + 1 ≡ length old.spares.items → 5 ≤ vec_capacity new.spares →
-            old.spent < 2 ^ 48 → IsAt w new.pass → Legal w (entries_of new.pass.me.0.seen) → IsReady w 0 new
-        lent_ready kept held number stream spent clear many room worn = begun_ready begun lends 1 (record {
-          number = number;
-          stream = stream;
-          drawn = refl;
-          stand = kept.stand;
-          leases = λ f.
-              let a = ap (count_by f) held in let b = tally-cons f (lease_pair lease) old.pass.me.0.holding in let c = tally-cons f (lease_pair lease) (leases_of old.handles.cells.items) in
-              let d = r.leases f in let k = kept.leases f in omega arith;
-          clear = clear;
-          five = let a = kept.more in let f = r.five in let m = many in omega arith;
-          room = room;
-          waits = waits_by r.operations handle begun.operation 1 last first r.stand.count free (omega arith);
-          few = omega arith;
-          spent = spent;
-        }) (omega arith)
-
-        pub lent_answered : (buffer : List ℕ) → IsAnswered w old.pass.me.0 new.pass.me.0 request rank (Ok output.Done) buffer buffer
-        lent_answered buffer = begun_answered begun lends (Ok output.Done) buffer (λ start is. ap failure_marked (sym plain)) refl refl
+      pub lent_answered : (buffer : List ℕ) → IsAnswered w old.pass.me.0 new.pass.me.0 request rank (Ok output.Done) buffer buffer
+      lent_answered = begun_answered begun lends (Ok output.Done) (λ start is. ap failure_marked (sym plain)) refl (λ buffer. refl)
 
 -- the call reads its key, in whatever history it is entered
 pub reads_key : {D A C : Type 0} (w : World D A C) (old : Caller D A C) (r : IsReady w 4 old) (request : Request) (handle : ℕ) (s : KeyedSetup) → 1 ≤ handle → handle ≤ 4 →

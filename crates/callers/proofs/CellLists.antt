@@ -113,14 +113,18 @@ names-append : (i k : ℕ) (xs ys : Pairs) → names i k (xs ++ ys) ≡ names i 
 names-append i k [] ys = omega arith
 names-append i k (x ∷ xs) ys = let r = names-append i k xs ys in omega arith
 
+-- a pair is the first of those that begin with it
+pub first_named : (p : ℕ × ℕ) (own : Pairs) → 0 < names p.0 p.1 (p ∷ own)
+first_named p own = let one : same p.0 p.1 p ≡ 1 = here p.0 p.1 in omega arith
+  where
+    here : (i k : ℕ) → same i k (i, k) ≡ 1
+    here i k = grind (arith, nat_tests)
+
 pub names_lease : (cells : List Cell) (j : ℕ) (c : Cell) (lease : Reading) → j < length cells → c ≡ get_or cells j c → c.lease ≡ Some lease → 0 < names lease.slot (lease.creation + 1) (leases_of cells)
 names_lease [] j c lease lt at is = absurd (omega arith)
 names_lease (x ∷ xs) zero c lease lt at is =
     let a = names-append lease.slot (lease.creation + 1) (pairs_of x.lease) (leases_of xs) in
     let e = ap (λ o. names lease.slot (lease.creation + 1) (pairs_of o)) (ap (λ (y : Cell). y.lease) (sym at) ∙ is) in
-    let one : same lease.slot (lease.creation + 1) (lease_pair lease) ≡ 1 = here lease.slot (lease.creation + 1) in omega arith
-  where
-    here : (i k : ℕ) → same i k (i, k) ≡ 1
-    here i k = grind (arith, nat_tests)
+    let one = first_named (lease_pair lease) [] in omega arith
 names_lease (x ∷ xs) (suc j) c lease lt at is =
     let a = names-append lease.slot (lease.creation + 1) (pairs_of x.lease) (leases_of xs) in let r = names_lease xs j c lease (omega arith) at is in omega arith

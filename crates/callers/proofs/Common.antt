@@ -1,10 +1,5 @@
 -- What several proofs of this crate cite of its words, and of other crates'.
-pub use Rattle.callers.specs.Called.{IsAnswered, IsCalled, IsReplied, IsToldTo, KnowsBefore, Legal, Starts, TellsFailure, TellsReply}
-pub use Rattle.callers.specs.Failures.{failure_in, failure_marked, failure_told}
-pub use Rattle.callers.specs.Handles.{AreIdle, AreOperations, ArePairs, HoldsLease, IsChanged, busy, leases_of, operation_at, pairs_of, with_operation_at}
-pub use Rattle.callers.specs.Parts.{IsBack, IsCreated, IsGivenBack, SameButPass, drawn_by}
-pub use Rattle.callers.specs.Ready.{IsOwnPart, IsReady}
-pub use Rattle.callers.specs.Retired.{IsRetired, IsRetiring, MakesNoCall}
+pub use Rattle.callers.specs.Prelude.{AreIdle, AreOperations, ArePairs, HoldsLease, IsAnswered, IsBack, IsCalled, IsChanged, IsCreated, IsGivenBack, IsOwnPart, IsReady, IsReplied, IsRetired, IsRetiring, IsToldTo, KnowsBefore, Legal, MakesNoCall, MayGoBack, SameButPass, Starts, TellsFailure, TellsReply, busy, drawn_by, drawn_for, failure_in, failure_marked, failure_told, leases_of, operation_at, pairs_of, with_operation_at}
 pub use Rattle.callers.specs.declared.caller.Caller.{Caller}
 pub use Rattle.derivation_states.specs.KeySteps.{output_key_refusal}
 pub use Rattle.key_attributes.specs.declared.Attributes.{Attributes}

@@ -1,13 +1,14 @@
 -- A caller after a call in one part with a key.
-use Rattle.std.proofs.Common.{All, Bool, Err, List, Result, [], ap, arith, count_by, false, if◌then◌else◌, length, length-append, subst, sym, true, vec_capacity, ℕ, ◌&&◌, ◌+◌, ◌<◌, ◌∙◌, ◌∷◌, ◌≡◌, ◌≤◌}
-use Rattle.callers.proofs.Common.{All-push, AnswersCall, AnswersReply, Caller, Computed, DecidesAfter, DecidesBefore, ElementCall, Entry, HasDrawn, IsAnswered, IsAt, IsCalled, IsClear, IsEntered, IsGivenBack, IsLent, IsOwnPart, IsReady, IsRefused, IsReplied, KeyUse, KeyedCall, KnowsBefore, Legal, NotComputed, OnStore, Outcome, Output, Pairs, Plain, RandomStream, Reading, Reply, Request, Status, World, bytes_of, computed_by, counted, drawn_by, drawn_from, draws_none, entries_of, few, has_vector, is_opaque_key, lease_pair, mark_computed, mark_of, may_change_keys, model_call, model_keyed_call, names, nat_tests, next_bytes, next_random, own_of, replay, same, step, takes_vector, use_refusal, wanted_by, with_computed, without_pair, words_used}
+use Rattle.std.proofs.Common.{Bool, Err, List, Result, ap, arith, count_by, false, if◌then◌else◌, length, subst, sym, true, ℕ, ◌&&◌, ◌+◌, ◌<◌, ◌∙◌, ◌∷◌, ◌≡◌, ◌≤◌}
+use Rattle.callers.proofs.Common.{AnswersCall, AnswersReply, Caller, Computed, DecidesAfter, DecidesBefore, ElementCall, Entry, HasDrawn, IsAnswered, IsAt, IsCalled, IsEntered, IsGivenBack, IsLent, IsOwnPart, IsReady, IsRefused, IsReplied, KeyUse, KeyedCall, KnowsBefore, Legal, NotComputed, OnStore, Outcome, Output, Plain, RandomStream, Reading, Reply, Request, Status, World, bytes_of, computed_by, counted, drawn_by, drawn_from, draws_none, entries_of, few, has_vector, is_opaque_key, lease_pair, mark_computed, mark_of, may_change_keys, model_call, model_keyed_call, names, next_bytes, next_random, own_of, replay, step, takes_vector, use_refusal, wanted_by, with_computed, without_pair, words_used}
 use Rattle.std.specs.FinMap as map
 use Rattle.std.specs.Result.{is_ok}
 use Rattle.store_core.specs.Prelude.{IsAnswered as IsOfElement}
 use Rattle.callers.proofs.ByElement.{element_fits, element_own}
-use Rattle.callers.proofs.CellLists.{tally-cons, without}
+use Rattle.callers.proofs.CellLists.{first_named, tally-cons, without}
 use Rattle.callers.proofs.Failing.{AnswersAs, answers_plain, computed_plainly, element_tells, refused_tells, use_plainly}
 use Rattle.callers.proofs.Journeys.{called, called_then}
+use Rattle.callers.proofs.Looking.{AreSpares, put_back}
 use Rattle.callers.proofs.Owned.{stored_own}
 use Rattle.callers.proofs.Readying.{known}
 use Rattle.callers.proofs.Storing.{decided_after, decided_known, kept_answered, kept_ready}
@@ -17,13 +18,6 @@ few_drawn : (b : Bool) → words_used (if b then 16 else 0) ≤ 256
 few_drawn true = omega arith
 few_drawn false = omega arith
 
--- a pair is the first of those that begin with it
-pub first_named : (p : ℕ × ℕ) (own : Pairs) → 0 < names p.0 p.1 (p ∷ own)
-first_named p own = let one : same p.0 p.1 p ≡ 1 = here p.0 p.1 in omega arith
-  where
-    here : (i k : ℕ) → same i k (i, k) ≡ 1
-    here i k = grind (arith, nat_tests)
-
 module _ {D A C : Type 0} (w : World D A C) (old : Caller D A C) (r : IsReady w 4 old) (asked : KeyedCall) (id room : ℕ) (wanted : KeyUse) (uses : wanted ≡ wanted_by asked) (request : Request)
     (asks : request ≡ OnStore (model_keyed_call asked id room)) (rank : ℕ) (before : List Entry) (e : Entry) (quiet : may_change_keys e.call ≡ false) (local : KnowsBefore w (λ service. IsLocal asked id service.store) before e) where
   -- THE KEY IS LENT: it is computed with, and the lease goes back
@@ -32,7 +26,7 @@ module _ {D A C : Type 0} (w : World D A C) (old : Caller D A C) (r : IsReady w 
       (passed : settled.pass ≡ looked.pass) (back : IsGivenBack lease settled new) where
     made : IsCalled old.pass.me.0 new.pass.me.0 2 request Plain rank before e
     made = called_then old.pass.me.0 settled.pass.me.0 new.pass.me.0 1 request Plain rank (without_pair (lease_pair lease) settled.pass.me.0.holding) before e
-        (subst (λ p. IsCalled old.pass.me.0 p.me.0 1 request Plain rank before e) (sym passed) (called old.pass.me.0 looked.pass.me.0 request Plain rank (lease_pair lease ∷ old.pass.me.0.holding) before e i)) back.later
+        (subst (λ p. IsCalled old.pass.me.0 p.me.0 1 request Plain rank before e) (sym passed) (called i)) back.later
 
     steps : KnowsBefore w (λ service. step service.store old.number (next_random service old.number) (model_keyed_call asked id room)
         ≡ with_computed service.store (computed_by asked (bytes_of lease.buffer) (next_bytes old.stream) room)) before e
@@ -49,10 +43,8 @@ module _ {D A C : Type 0} (w : World D A C) (old : Caller D A C) (r : IsReady w 
     is_out : 0 < names lease.slot (lease.creation + 1) settled.pass.me.0.holding
     is_out = subst (λ own. 0 < names lease.slot (lease.creation + 1) own) (sym (ap (λ p. p.me.0.holding) passed ∙ i.holding)) (first_named (lease_pair lease) old.pass.me.0.holding)
 
-    pub lent_ready : settled.number ≡ old.number → settled.spent ≡ old.spent → settled.handles ≡ old.handles → settled.stream ≡ drawn_from old.stream lent.drawn →
-        All IsClear settled.spares.items → length settled.spares.items + 1 ≡ length old.spares.items → vec_capacity settled.spares ≡ vec_capacity old.spares →
-        IsAt w new.pass → Legal w (entries_of new.pass.me.0.seen) → IsReady w 0 new
-    lent_ready number spent handles stream clear many capacity at legal =
+    pub lent_ready : settled.number ≡ old.number → settled.spent ≡ old.spent → settled.handles ≡ old.handles → settled.stream ≡ drawn_from old.stream lent.drawn → AreSpares 1 old.spares settled.spares → IsAt w new.pass → Legal w (entries_of new.pass.me.0.seen) → IsReady w 0 new
+    lent_ready number spent handles stream spares at legal =
         kept_ready w old new r 2 request (model_keyed_call asked id room) asks Plain rank before e made lent.drawn (let f = few asked (bytes_of lease.buffer) (next_bytes old.stream) room in omega arith) (omega arith) (record {
           number = back.number ∙ number;
           spent = back.spent ∙ spent;
@@ -61,9 +53,7 @@ module _ {D A C : Type 0} (w : World D A C) (old : Caller D A C) (r : IsReady w 
           holding = λ f.
               let a = ap (count_by f) back.later.holding in let b = without f (lease_pair lease) settled.pass.me.0.holding is_out in
               let c = ap (λ p. count_by f p.me.0.holding) passed in let d = ap (count_by f) i.holding in let m = tally-cons f (lease_pair lease) old.pass.me.0.holding in omega arith;
-          clear = subst (All IsClear) (sym back.spares) (All-push IsClear settled.spares.items back.spare clear back.clear);
-          many = let a = ap length back.spares in let b = length-append settled.spares.items (back.spare ∷ []) in omega arith;
-          room = back.room ∙ capacity;
+          spares = put_back old.spares settled.spares new.spares spares back.clear back.spares back.room;
         }) at legal (λ start is tells.
         let service = replay start before in
         let k = known w 4 old new r 2 request Plain rank before e made start is tells in
@@ -80,24 +70,21 @@ module _ {D A C : Type 0} (w : World D A C) (old : Caller D A C) (r : IsReady w 
   module _ (new : Caller D A C) (why : Status) (i : IsEntered old.pass.me.0 new.pass.me.0 request (mark_of why) rank old.pass.me.0.holding before e)
       (decided : DecidesAfter w (IsRefused (use_refusal wanted) id why) before e) where
     abbrev turned : IsCalled old.pass.me.0 new.pass.me.0 1 request (mark_of why) rank before e
-    turned = called old.pass.me.0 new.pass.me.0 request (mark_of why) rank old.pass.me.0.holding before e i
+    turned = called i
 
     refuses : KnowsBefore w (λ service. IsRefusal service old.number (model_keyed_call asked id room) (mark_of why) why) before e
     refuses start is tells =
         refusal_of asked id room wanted uses (replay start before) old.number why (local start is tells) (decided_after w (IsRefused (use_refusal wanted) id why) before e quiet decided start is tells)
 
-    pub refused_ready : new.number ≡ old.number → new.spent ≡ old.spent → new.handles ≡ old.handles → new.stream ≡ old.stream → All IsClear new.spares.items → length new.spares.items ≡ length old.spares.items →
-        vec_capacity new.spares ≡ vec_capacity old.spares → IsAt w new.pass → Legal w (entries_of new.pass.me.0.seen) → IsReady w 0 new
-    refused_ready number spent handles stream clear many capacity at legal =
+    pub refused_ready : new.number ≡ old.number → new.spent ≡ old.spent → new.handles ≡ old.handles → new.stream ≡ old.stream → AreSpares 0 old.spares new.spares → IsAt w new.pass → Legal w (entries_of new.pass.me.0.seen) → IsReady w 0 new
+    refused_ready number spent handles stream spares at legal =
         kept_ready w old new r 1 request (model_keyed_call asked id room) asks (mark_of why) rank before e turned 0 (omega arith) (omega arith) (record {
           number = number;
           spent = spent;
           handles = handles;
           stream = stream ∙ draws_none old.stream;
           holding = λ f. ap (count_by f) i.holding;
-          clear = clear;
-          many = many;
-          room = capacity;
+          spares = spares;
         }) at legal (λ start is tells.
         let service = replay start before in
         let k = known w 4 old new r 1 request (mark_of why) rank before e turned start is tells in
@@ -115,23 +102,20 @@ module _ {D A C : Type 0} (w : World D A C) (old new : Caller D A C) (r : IsRead
     (quiet : may_change_keys e.call ≡ false) (i : IsEntered old.pass.me.0 new.pass.me.0 request (mark_computed result) rank old.pass.me.0.holding before e)
     (decided : DecidesAfter w (IsOfElement (w.devices.keys w.opened.devices.value) id element shown given result) before e) where
   abbrev asked_of : IsCalled old.pass.me.0 new.pass.me.0 1 request (mark_computed result) rank before e
-  asked_of = called old.pass.me.0 new.pass.me.0 request (mark_computed result) rank old.pass.me.0.holding before e i
+  asked_of = called i
 
   after : KnowsBefore w (λ service. IsOfElement (w.devices.keys w.opened.devices.value) id element shown given result (counted service.store)) before e
   after = decided_after w (IsOfElement (w.devices.keys w.opened.devices.value) id element shown given result) before e quiet decided
 
-  pub computed_ready : has_vector element ≡ takes_vector asked → new.number ≡ old.number → new.spent ≡ old.spent → new.handles ≡ old.handles → new.stream ≡ drawn_from old.stream (drawn_by asked (is_ok result)) →
-      All IsClear new.spares.items → length new.spares.items ≡ length old.spares.items → vec_capacity new.spares ≡ vec_capacity old.spares → IsAt w new.pass → Legal w (entries_of new.pass.me.0.seen) → IsReady w 0 new
-  computed_ready draws number spent handles stream clear many capacity at legal =
+  pub computed_ready : has_vector element ≡ takes_vector asked → new.number ≡ old.number → new.spent ≡ old.spent → new.handles ≡ old.handles → new.stream ≡ drawn_from old.stream (drawn_by asked (is_ok result)) → AreSpares 0 old.spares new.spares → IsAt w new.pass → Legal w (entries_of new.pass.me.0.seen) → IsReady w 0 new
+  computed_ready draws number spent handles stream spares at legal =
       kept_ready w old new r 1 request (model_keyed_call asked id (length shown)) asks (mark_computed result) rank before e asked_of (drawn_by asked (is_ok result)) (few_drawn (is_ok result && takes_vector asked)) (omega arith) (record {
         number = number;
         spent = spent;
         handles = handles;
         stream = stream;
         holding = λ f. ap (count_by f) i.holding;
-        clear = clear;
-        many = many;
-        room = capacity;
+        spares = spares;
       }) at legal (λ start is tells.
       let service = replay start before in
       let k = known w 4 old new r 1 request (mark_computed result) rank before e asked_of start is tells in

@@ -1,9 +1,10 @@
 -- A caller after a call that creates a key of random bytes.
-use Rattle.std.proofs.Common.{Err, List, None, Ok, Option, Result, Some, ap, arith, false, length, refl, subst, sym, ℕ, ◌+◌, ◌<◌, ◌∙◌, ◌≡◌, ◌≤◌}
-use Rattle.callers.proofs.Common.{Attributes, Caller, CreatesKey, Entry, FaultMark, Generate, GoesOn, HandleOperation, IsMade, IsOwnPart, IsReady, IsSound, IsToldTo, IsUnmade, KeyId, NotMade, OnStore, Outcome, Plain, Random, RecordsStated, Request, Service, Starts, Status, Store, World, created_unless, few_bytes, first_row, generated, generation_of, has_secure_element, is_destruction, length-random, mark_unmade, next_bytes, next_random, own_of, plain_step, recorded, recorded_of, replay, serve, stated_bits_rows, stated_bytes, step, unless, words_used}
+use Rattle.std.proofs.Common.{Bool, Err, List, None, Ok, Option, Result, Some, ap, arith, false, if◌then◌else◌, inl, inr, length, nat_lt, refl, subst, sym, true, ℕ, ◌+◌, ◌<◌, ◌∙◌, ◌≡◌, ◌≤◌}
+use Rattle.callers.proofs.Common.{Attributes, Caller, CreatesKey, Entry, FaultMark, Generate, GoesOn, HandleOperation, IsMade, IsOwnPart, IsReady, IsSound, IsToldTo, IsUnmade, KeyId, NotMade, OnStore, Outcome, Plain, Random, RecordsStated, Request, Service, Starts, Status, Store, World, created_unless, drawn_for, first_row, generated, generation_of, is_destruction, mark_unmade, nat_tests, next_bytes, next_random, own_of, plain_step, recorded_of, replay, serve, stated_bits_rows, stated_bytes, step, unless, words_used}
 use Rattle.psa_status.specs.Rows.{◌>>=◌}
 use Rattle.store_core.specs.declared.creating.NotMade.TheVariants as unmade
 use Rattle.store_core.specs.declared.creating.Unkept.TheVariants as unkept
+use Rattle.callers.proofs.KeySizes.{few_or_many, few_recorded}
 use Rattle.callers.proofs.Owned.{failed_own, stored_own}
 use Rattle.callers.proofs.Readying.{random_there}
 use Rattle.callers.proofs.Storing.{DrawsNone}
@@ -29,10 +30,6 @@ module _ (store : Store) (caller : ℕ) (a : Attributes) where
     no_matter (Ok k) bytes none = absurd (none k refl)
     no_matter (Err status) bytes none = refl
 
-  -- no key is longer than 1,024 bytes
-  pub never_recorded : (n : ℕ) → 1024 < n → (k : Attributes) → recorded_of store caller a n ≡ Ok k → ⊥
-  never_recorded n long k is = let few = few_bytes k n (has_secure_element store) (recorded store caller a n k is).may.checks in omega arith
-
 -- and bits that say none draw nothing
 pub no_bytes_drawn : (a : Attributes) → (first_row (stated_bits_rows a) ≡ None → ⊥) → DrawsNone (Generate a)
 no_bytes_drawn a refused store caller random = by (first_row (stated_bits_rows a)) refl
@@ -50,10 +47,9 @@ module _ {D A C : Type 0} (w : World D A C) (n : ℕ) (old : Caller D A C) (r : 
   abbrev Makes : List ℕ → Type 0
   Makes bytes = CreatesKey w old.pass.me.0 old.number request (Records (length bytes)) bytes
 
-  by_bytes : (bytes : List ℕ) → length bytes ≡ stated_bytes a →
-      ((start : Service) → Starts w start → (h : List Entry) → GoesOn old.pass.me.0 h → IsToldTo w start h → (kept : Result Attributes Status) → kept ≡ recorded_of (replay start h).store old.number a (stated_bytes a) →
-      created_unless (replay start h).store old.number kept (next_random (replay start h) old.number (stated_bytes a)) ≡ created_unless (replay start h).store old.number kept bytes) → Makes bytes
-  by_bytes bytes long same = record {
+  -- of the caller's next random bytes, or of any where they are too many
+  pub generates : (bytes : List ℕ) → length bytes ≡ stated_bytes a → (stated_bytes a ≤ 1024 → bytes ≡ next_bytes old.stream (stated_bytes a)) → Makes bytes
+  generates bytes long drawn = record {
     keeps = keeps;
     leaves = λ start is h on tells kept records.
         let service = replay start h in let stated = recorded_so service kept records in
@@ -73,18 +69,29 @@ module _ {D A C : Type 0} (w : World D A C) (n : ℕ) (old : Caller D A C) (r : 
       recorded_so : (service : Service) (kept : Result Attributes Status) → Records (length bytes) service.store kept → kept ≡ recorded_of service.store old.number a (stated_bytes a)
       recorded_so service kept records = records ∙ ap (recorded_of service.store old.number a) long
 
-  -- of the caller's next random bytes
-  pub random_creates : (bytes : List ℕ) → bytes ≡ next_bytes old.stream (stated_bytes a) → Makes bytes
-  random_creates bytes is = by_bytes bytes (ap length is ∙ length-random old.stream.seed old.stream.caller old.stream.place (stated_bytes a)) (λ start started h on tells kept stated.
-      ap (created_unless (replay start h).store old.number kept) (random_there w n old r start h started on tells (stated_bytes a) ∙ sym is))
-
-  -- of any bytes, where they are too many
-  pub long_creates : (bytes : List ℕ) → length bytes ≡ stated_bytes a → 1024 < stated_bytes a → Makes bytes
-  long_creates bytes long more = by_bytes bytes long (λ start started h on tells kept stated.
-      no_matter (replay start h).store old.number a (next_random (replay start h) old.number) (stated_bytes a) kept bytes
-      (λ k is. never_recorded (replay start h).store old.number a (stated_bytes a) more k (sym stated ∙ is)))
+      same : (start : Service) → Starts w start → (h : List Entry) → GoesOn old.pass.me.0 h → IsToldTo w start h → (kept : Result Attributes Status) → kept ≡ recorded_of (replay start h).store old.number a (stated_bytes a) →
+          created_unless (replay start h).store old.number kept (next_random (replay start h) old.number (stated_bytes a)) ≡ created_unless (replay start h).store old.number kept bytes
+      same start is h on tells kept stated = elim (few_or_many (stated_bytes a) (nat_lt 1024 (stated_bytes a)) refl) [
+        | inl few ↦ ap (created_unless (replay start h).store old.number kept) (random_there w n old r start h is on tells (stated_bytes a) ∙ sym (drawn few))
+        | inr many ↦ no_matter (replay start h).store old.number a (next_random (replay start h) old.number) (stated_bytes a) kept bytes
+            (λ k kept_is. let few = few_recorded (replay start h).store old.number a k (stated_bytes a) (sym stated ∙ kept_is) in omega arith)
+      ]
 
 -- WHAT IS DRAWN
+
+pub all_drawn : (a : Attributes) → stated_bytes a ≤ 1024 → drawn_for a ≡ stated_bytes a
+all_drawn a few = let is : nat_lt 1024 (stated_bytes a) ≡ false = grind (arith, nat_tests) in ap (λ b. if b then 0 else stated_bytes a) is
+
+pub few_for : (a : Attributes) → words_used (drawn_for a) ≤ 256
+few_for a = by (nat_lt 1024 (stated_bytes a)) refl
+  where
+    by : (many : Bool) → nat_lt 1024 (stated_bytes a) ≡ many → words_used (if many then 0 else stated_bytes a) ≤ 256
+    by true e = omega arith
+    by false e = let few : stated_bytes a ≤ 1024 = grind (arith, nat_tests) in omega arith
+
+-- of too many none is
+pub none_for : (a : Attributes) → 1024 < stated_bytes a → drawn_for a ≡ 0
+none_for a many = let is : nat_lt 1024 (stated_bytes a) ≡ true = grind (arith, nat_tests) in ap (λ b. if b then 0 else stated_bytes a) is
 
 module _ (service : Service) (caller : ℕ) (a : Attributes) (whole : first_row (stated_bits_rows a) ≡ None) (count : ℕ) (counts : count ≡ stated_bytes a) (operations : List HandleOperation) (place next : ℕ)
     (sound : IsSound service) (last : caller ≤ 16) (own : IsOwnPart operations place (own_of service caller)) where
@@ -96,9 +103,10 @@ module _ (service : Service) (caller : ℕ) (a : Attributes) (whole : first_row 
   Leaves mark = IsOwnPart operations next (own_of (serve service caller (OnStore (Generate a)) mark).service caller)
 
   -- a key that is made has its bytes drawn
-  pub made_own : (id : KeyId) → next ≡ place + words_used (stated_bytes a) → IsMade (RecordsStated None caller a count) caller id.0 service.store → Leaves Plain
+  pub made_own : (id : KeyId) → next ≡ place + words_used (drawn_for a) → IsMade (RecordsStated None caller a count) caller id.0 service.store → Leaves Plain
   made_own id more made =
-      stored_own service caller (step service.store caller (next_random service caller) (Generate a)) operations place next sound last own (let d = ap words_used (drawn_by (Ok made.0) made.1) in omega arith)
+      let few = few_recorded service.store caller a made.0 (stated_bytes a) (sym (made.1 ∙ ap (recorded_of service.store caller a) counts)) in
+      stored_own service caller (step service.store caller (next_random service caller) (Generate a)) operations place next sound last own (let d = ap words_used (drawn_by (Ok made.0) made.1) in let f = ap words_used (all_drawn a few) in omega arith)
 
   -- and one that isn't has none
   pub unmade_own : (why : NotMade) → next ≡ place → IsUnmade (RecordsStated None caller a count) why service.store → Leaves (mark_unmade why)

@@ -1,12 +1,12 @@
--- A caller after a call on a handle: one ranked turn, the handle's operation changed, and its lease given back where that is over.
-use Rattle.std.proofs.Common.{All, Bool, List, None, Option, Result, Some, [], ap, arith, cond, count_by, false, length, length-append, not, refl, subst, sym, true, vec_capacity, vec_len, ℕ, ◌*◌, ◌++◌, ◌+◌, ◌-◌, ◌<◌, ◌==◌, ◌^◌, ◌∙◌, ◌∷◌, ◌≡◌, ◌≤◌}
-use Rattle.callers.proofs.Common.{After, All-push, AnswersReply, AreOperations, ArePairs, Buffer, Caller, Entry, FaultMark, HandleOperation, Held, IsAnswered, IsAt, IsBack, IsCalled, IsChanged, IsClear, IsEntered, IsOwnPart, IsReady, KnowsBefore, Legal, Output, Pairs, RandomStream, Reading, Request, Served, Status, TURNS, TellsFailure, View, World, applied, buffer_after, busy, drawn_from, entries_of, is_inactive, lease_pair, leases_of, names, operation_at, outcome_of, own_of, pairs_of, replay, with_operation_at, without_pair}
+-- A caller after a call on a handle: a ranked turn, the handle's operation changed, and its lease given back where that is over.
+use Rattle.std.proofs.Common.{All, Bool, List, None, Option, Result, Some, [], ap, arith, cond, count_by, false, length, length-append, not, refl, subst, sym, true, vec_capacity, ℕ, ◌*◌, ◌++◌, ◌+◌, ◌-◌, ◌<◌, ◌==◌, ◌∙◌, ◌∷◌, ◌≡◌, ◌≤◌, Ok}
+use Rattle.callers.proofs.Common.{After, All-push, AnswersReply, AreOperations, ArePairs, Caller, Entry, FaultMark, HandleOperation, Held, IsAnswered, IsAt, IsBack, IsCalled, IsChanged, IsClear, IsEntered, IsReady, KnowsBefore, Legal, MayGoBack, Output, Pairs, RandomStream, Reading, Request, Status, TellsFailure, View, World, applied, buffer_after, drawn_from, entries_of, is_inactive, lease_pair, leases_of, names, operation_at, outcome_of, pairs_of, with_operation_at, without_pair, HandleCall, IsRanked, OnHandle, Plain, SameButPass, Service, is_alive, key_of_operation, model_step, next_bytes, operation_of, replay, serve, stepped_by, steps_are, Abort, Done, Inactive, done, draws_none, ends}
 use Rattle.std.specs.Option.{IfSome}
-use Rattle.std.specs.Global.{Vec}
+use Rattle.service_calls.specs.declared.steps.Step.{Step}
+use Rattle.callers.specs.declared.handles.Handles.{Handles}
 use Rattle.callers.proofs.CellLists.{busy_put, few, named_alike, once, tally-cons, without}
-use Rattle.callers.proofs.Journeys.{called, called_then}
-use Rattle.callers.proofs.Owned.{applied_own}
-use Rattle.callers.proofs.Readying.{known, ready}
+use Rattle.callers.proofs.Journeys.{called_then, called}
+use Rattle.callers.proofs.Readying.{applied_answered, applied_there, ready, IsKnown, known, outcome_is}
 
 pub names_few : (i k : ℕ) (own : Pairs) → names i k own ≤ length own
 names_few i k [] = omega arith
@@ -22,35 +22,84 @@ if_some P None h = tt
 if_some P (Some l) h = h l refl
 
 -- a ranked turn that gave nothing out and took nothing back
-pub one_turn : {B : Type 0} {v u : View Entry B} {request : Request} {mark : FaultMark} {rank : ℕ} {before : List Entry} {e : Entry} → IsEntered v u request mark rank v.holding before e → IsCalled v u 1 request mark rank before e
-one_turn {v = v} {u = u} {request = request} {mark = mark} {rank = rank} {before = before} {e = e} i = called v u request mark rank v.holding before e i
-
 pub same_out : {B : Type 0} {v u : View Entry B} {request : Request} {mark : FaultMark} {rank : ℕ} {before : List Entry} {e : Entry} → IsEntered v u request mark rank v.holding before e → ArePairs u.holding v.holding
 same_out i = λ f. ap (count_by f) i.holding
 
-module _ {D A C : Type 0} (w : World D A C) (n : ℕ) (old settled new : Caller D A C) (r : IsReady w n old) (request : Request) (mark : FaultMark) (rank : ℕ) (before : List Entry) (e : Entry)
-    (t : ℕ) (turned : IsCalled old.pass.me.0 settled.pass.me.0 t request mark rank before e) (held : ArePairs settled.pass.me.0.holding old.pass.me.0.holding)
-    (handle : ℕ) (operation : HandleOperation) (lease : Option Reading) (change : IsChanged old.handles.cells.items settled.handles.cells.items r.operations handle operation lease) where
-  -- the lease that goes back is out
-  pub is_out : (l : Reading) → lease ≡ Some l → 0 < names l.slot (l.creation + 1) settled.pass.me.0.holding
-  is_out l is =
-      let a = named_alike old.pass.me.0.holding (leases_of old.handles.cells.items) l.slot (l.creation + 1) r.leases in
-      let b = named_alike settled.pass.me.0.holding old.pass.me.0.holding l.slot (l.creation + 1) held in let m = change.mine l is in omega arith
+-- a handle's operation has changed, and the lease that was handed out, if one was, goes back
+module _ {D A C : Type 0} (old settled new : Caller D A C) {operations : List HandleOperation} {handle : ℕ} {operation : HandleOperation} {lease : Option Reading} (change : IsChanged old.handles.cells.items settled.handles.cells.items operations handle operation lease)
+    (all_out : ArePairs settled.pass.me.0.holding (leases_of old.handles.cells.items)) (all_five : length (leases_of old.handles.cells.items) + length settled.spares.items ≡ 5) (five_fit : 5 ≤ vec_capacity settled.spares) where
+  is_out : (l : Reading) → lease ≡ Some l → 0 < names l.slot (l.creation + 1) settled.pass.me.0.holding
+  is_out l is = let a = named_alike settled.pass.me.0.holding (leases_of old.handles.cells.items) l.slot (l.creation + 1) all_out in let m = change.mine l is in omega arith
 
-  pub out : IfSome lease (λ l. 0 < names l.slot (l.creation + 1) settled.pass.me.0.holding)
-  out = if_some (λ l. 0 < names l.slot (l.creation + 1) settled.pass.me.0.holding) lease is_out
+  pub may_go_back : IfSome lease (MayGoBack settled)
+  may_go_back = if_some (MayGoBack settled) lease (λ l is. (is_out l is, let m = change.mine l is in let f = names_few l.slot (l.creation + 1) (leases_of old.handles.cells.items) in omega arith))
 
-  -- and there is room for its spare
-  pub has_room : (spares : Vec Buffer) → spares ≡ old.spares → IfSome lease (λ l. vec_len spares < vec_capacity spares)
-  has_room spares same = if_some (λ l. vec_len spares < vec_capacity spares) lease
-      (λ l is. let m = change.mine l is in let f = names_few l.slot (l.creation + 1) (leases_of old.handles.cells.items) in let a = r.five in let b = r.room in let c = ap (λ v. length v.items) same in let d = ap vec_capacity same in omega arith)
+  -- what that leaves of the caller
+  pub record IsLeft (c : Caller D A C) : Type 0 where
+    pub number : c.number ≡ settled.number
+    pub spent : c.spent ≡ settled.spent
+    pub stream : c.stream ≡ settled.stream
+    pub handles : c.handles ≡ settled.handles
+    pub room : vec_capacity c.spares ≡ vec_capacity settled.spares
+    pub leases : ArePairs c.pass.me.0.holding (leases_of c.handles.cells.items)
+    pub clear : All IsClear settled.spares.items → All IsClear c.spares.items
+    pub five : length (leases_of c.handles.cells.items) + length c.spares.items ≡ 5
+
+  left_by : (o : Option Reading) → lease ≡ o → IsBack o settled new → IsLeft new
+  left_by None is same = subst IsLeft (sym same) (record {
+    number = refl;
+    spent = refl;
+    stream = refl;
+    handles = refl;
+    room = refl;
+    leases = λ f. let a = all_out f in let b = change.leases f in let g = ap (λ x. count_by f (pairs_of x ++ leases_of settled.handles.cells.items)) is in omega arith;
+    clear = λ all. all;
+    five = let a = change.fewer in let g = ap (λ x. length (pairs_of x)) is in omega arith;
+  })
+  left_by (Some l) is given = record {
+    number = given.number;
+    spent = given.spent;
+    stream = given.stream;
+    handles = given.handles;
+    room = given.room;
+    leases = λ f.
+        let a = ap (count_by f) given.later.holding in let b = without f (lease_pair l) settled.pass.me.0.holding (is_out l is) in let c = all_out f in
+        let e = change.leases f in let g = ap (λ x. count_by f (pairs_of x ++ leases_of settled.handles.cells.items)) is in
+        let m = tally-cons f (lease_pair l) (leases_of settled.handles.cells.items) in let h = ap (λ x. count_by f (leases_of x.cells.items)) given.handles in omega arith;
+    clear = λ all. subst (All IsClear) (sym given.spares) (All-push IsClear settled.spares.items given.spare all given.clear);
+    five = let a = ap length given.spares in let b = length-append settled.spares.items (given.spare ∷ []) in let c = change.fewer in let g = ap (λ x. length (pairs_of x)) is in
+        let h = ap (λ x. length (leases_of x.cells.items)) given.handles in omega arith;
+  }
+
+  pub left : IsBack lease settled new → IsLeft new
+  left = left_by lease refl
+
+pub spent_back : {D A C : Type 0} (settled new : Caller D A C) (lease : Option Reading) → IsBack lease settled new → new.spent ≡ settled.spent
+spent_back {D} {A} {C} settled new None back = ap (λ (c : Caller D A C). c.spent) back
+spent_back settled new (Some l) back = back.spent
+
+-- in a call, so many turns after it began
+module _ {D A C : Type 0} (w : World D A C) {n : ℕ} {old : Caller D A C} (r : IsReady w n old) (settled new : Caller D A C) {request : Request} {mark : FaultMark} {rank : ℕ} {before : List Entry} {e : Entry}
+    {t : ℕ} (turned : IsCalled old.pass.me.0 settled.pass.me.0 t request mark rank before e) (held : ArePairs settled.pass.me.0.holding old.pass.me.0.holding) (spares : settled.spares ≡ old.spares)
+    {handle : ℕ} (after : After Held) {lease : Option Reading} (change : IsChanged old.handles.cells.items settled.handles.cells.items r.operations handle after.operation lease) where
+  leases_are : ArePairs settled.pass.me.0.holding (leases_of old.handles.cells.items)
+  leases_are f = held f ∙ r.leases f
+
+  five : length (leases_of old.handles.cells.items) + length settled.spares.items ≡ 5
+  five = subst (λ x. length (leases_of old.handles.cells.items) + length x.items ≡ 5) (sym spares) r.five
+
+  room : 5 ≤ vec_capacity settled.spares
+  room = subst (λ x. 5 ≤ vec_capacity x) (sym spares) r.room
+
+  pub goes_back : IfSome lease (MayGoBack settled)
+  goes_back = may_go_back old settled new change leases_are five room
 
   -- so many turns were spent
   abbrev pub spent_by : Option Reading → ℕ
   spent_by None = t
   spent_by (Some l) = t + 1
 
-  pub few_turns : (o : Option Reading) → spent_by o ≤ t + 1
+  few_turns : (o : Option Reading) → spent_by o ≤ t + 1
   few_turns None = omega arith
   few_turns (Some l) = omega arith
 
@@ -60,96 +109,106 @@ module _ {D A C : Type 0} (w : World D A C) (n : ℕ) (old settled new : Caller 
   called_by (Some l) back = called_then old.pass.me.0 settled.pass.me.0 new.pass.me.0 t request mark rank (without_pair (lease_pair l) settled.pass.me.0.holding) before e turned back.later
 
   module _ (back : IsBack lease settled new) where
-    abbrev pub turns : ℕ
-    turns = spent_by lease
-
-    pub made : IsCalled old.pass.me.0 new.pass.me.0 turns request mark rank before e
+    pub made : IsCalled old.pass.me.0 new.pass.me.0 (spent_by lease) request mark rank before e
     made = called_by lease back
 
-    -- what stays of the settled caller
-    pub record IsLeft : Type 0 where
-      pub number : new.number ≡ settled.number
-      pub spent : new.spent ≡ settled.spent
-      pub stream : new.stream ≡ settled.stream
-      pub handles : new.handles ≡ settled.handles
-      pub room : vec_capacity new.spares ≡ vec_capacity settled.spares
-      pub leases : ArePairs new.pass.me.0.holding (leases_of new.handles.cells.items)
-      pub clear : All IsClear settled.spares.items → All IsClear new.spares.items
-      pub five : length (leases_of new.handles.cells.items) + length new.spares.items ≡ length (leases_of old.handles.cells.items) + length settled.spares.items
-
-    left_by : (o : Option Reading) → lease ≡ o → IsBack o settled new → IsLeft
-    left_by None is same = record {
-      number = ap (λ (c : Caller D A C). c.number) same;
-      spent = ap (λ (c : Caller D A C). c.spent) same;
-      stream = ap (λ (c : Caller D A C). c.stream) same;
-      handles = ap (λ (c : Caller D A C). c.handles) same;
-      room = ap (λ (c : Caller D A C). vec_capacity c.spares) same;
-      leases = λ f.
-          let a = ap (λ (c : Caller D A C). count_by f c.pass.me.0.holding) same in let b = held f in let d = r.leases f in let e = change.leases f in
-          let g = ap (λ x. count_by f (pairs_of x ++ leases_of settled.handles.cells.items)) is in let h = ap (λ (c : Caller D A C). count_by f (leases_of c.handles.cells.items)) same in omega arith;
-      clear = λ all. subst (λ (c : Caller D A C). All IsClear c.spares.items) (sym same) all;
-      five = let a = ap (λ (c : Caller D A C). length (leases_of c.handles.cells.items) + length c.spares.items) same in let b = change.fewer in let g = ap (λ x. length (pairs_of x)) is in omega arith;
-    }
-    left_by (Some l) is given = record {
-      number = given.number;
-      spent = given.spent;
-      stream = given.stream;
-      handles = given.handles;
-      room = given.room;
-      leases = λ f.
-          let a = ap (count_by f) given.later.holding in let b = without f (lease_pair l) settled.pass.me.0.holding (is_out l is) in let c = held f in let d = r.leases f in
-          let e = change.leases f in let g = ap (λ x. count_by f (pairs_of x ++ leases_of settled.handles.cells.items)) is in
-          let m = tally-cons f (lease_pair l) (leases_of settled.handles.cells.items) in let h = ap (λ x. count_by f (leases_of x.cells.items)) given.handles in omega arith;
-      clear = λ all. subst (All IsClear) (sym given.spares) (All-push IsClear settled.spares.items given.spare all given.clear);
-      five = let a = ap length given.spares in let b = length-append settled.spares.items (given.spare ∷ []) in let c = change.fewer in let g = ap (λ x. length (pairs_of x)) is in
-          let h = ap (λ x. length (leases_of x.cells.items)) given.handles in omega arith;
-    }
-
-    pub left : IsLeft
-    left = left_by lease refl back
-
     -- the one-thread service applies this to the handle
-    module _ (after : After Held) (operation_is : operation ≡ after.operation) (first : 1 ≤ handle) (last : handle ≤ 4)
-        (applies : KnowsBefore w (λ service. outcome_of service e ≡ applied service old.number handle after) before e) where
-      pub handled_ready : (slack : ℕ) → IsAt w new.pass → Legal w (entries_of new.pass.me.0.seen) → settled.number ≡ old.number → settled.spares ≡ old.spares →
-          settled.stream ≡ drawn_from old.stream after.drawn → TURNS + 2 * busy (with_operation_at r.operations handle operation) + slack + turns ≤ old.pass.me.0.turns_left + 4 * settled.spent →
-          settled.stream.place + 64 * slack ≤ 256 * settled.spent → settled.spent ≤ 2 ^ 48 → IsReady w slack new
-      handled_ready slack at legal number spares stream enough words spent =
-          let place = ap (λ (s : RandomStream). s.place) (left.stream ∙ stream) in
-          ready w n old new r turns request mark rank before e made (with_operation_at r.operations handle operation) slack at legal (record {
-            number = left.number ∙ number;
-            stand = subst (λ x. AreOperations x.cells.items (with_operation_at r.operations handle operation)) (sym left.handles) change.stand;
-            own = λ start is tells.
-                let service = replay start before in
-                let k = known w n old new r turns request mark rank before e made start is tells in
-                subst (λ (s : Served). IsOwnPart (with_operation_at r.operations handle operation) new.stream.place (own_of s.service old.number)) (sym (applies start is tells))
-                (subst (λ o. IsOwnPart (with_operation_at r.operations handle o) new.stream.place (own_of (applied service old.number handle after).service old.number)) (sym operation_is)
-                (applied_own service old.number handle after r.operations old.stream.place new.stream.place k.sound r.last k.own r.stand.count first last place));
-            leases = left.leases;
-            clear = left.clear (subst (λ x. All IsClear x.items) (sym spares) r.clear);
-            five = let a = left.five in let b = ap (λ x. length x.items) spares in let f = r.five in omega arith;
-            room = let a = left.room in let b = ap vec_capacity spares in let f = r.room in omega arith;
-            seed = ap (λ (s : RandomStream). s.seed) (left.stream ∙ stream);
-            stream_of = ap (λ (s : RandomStream). s.caller) (left.stream ∙ stream);
-            turns_are = let a = left.spent in let b = made.left in omega arith;
-            words = let a = left.spent in let b = ap (λ (s : RandomStream). s.place) left.stream in omega arith;
-            spent = let a = left.spent in omega arith;
+    module _ (first : 1 ≤ handle) (last : handle ≤ 4) (applies : KnowsBefore w (λ service. outcome_of service e ≡ applied service old.number handle after) before e) where
+      -- the handle doesn't wait for its end more than it did, but by one: so its end must have counted
+      pub handled_ready : IsAt w new.pass → Legal w (entries_of new.pass.me.0.seen) → settled.number ≡ old.number → settled.spent ≡ old.spent → settled.stream ≡ drawn_from old.stream after.drawn → settled.stream.place ≤ old.stream.place + 64 * n →
+          t + 1 + 2 * once (not (is_inactive after.operation)) ≤ n + 2 * once (not (is_inactive (operation_at r.operations handle))) → IsReady w 0 new
+      handled_ready at legal number spent stream words enough =
+          let l = left old settled new change leases_are five room back in let place = ap (λ (s : RandomStream). s.place) (l.stream ∙ stream) in
+          ready w n old new r (spent_by lease) request mark rank before e made (with_operation_at r.operations handle after.operation) 0 at legal (record {
+            number = l.number ∙ number;
+            stand = subst (λ x. AreOperations x.cells.items (with_operation_at r.operations handle after.operation)) (sym l.handles) change.stand;
+            own = applied_there w n old new r (spent_by lease) request mark rank before e made first last after applies place;
+            leases = l.leases;
+            clear = l.clear (subst (λ x. All IsClear x.items) (sym spares) r.clear);
+            five = l.five;
+            room = subst (λ n. 5 ≤ n) (sym l.room) room;
+            seed = ap (λ (s : RandomStream). s.seed) (l.stream ∙ stream);
+            stream_of = ap (λ (s : RandomStream). s.caller) (l.stream ∙ stream);
+            turns_are = let a = l.spent in let b = made.left in let f = few_turns lease in let t = r.turns in let p = busy_put r.operations (handle - 1) after.operation (let z = r.stand.count in omega arith) in omega (arith, spent, enough);
+            words = let a = l.spent in let b = ap (λ (s : RandomStream). s.place) l.stream in let t = r.words in omega (arith, spent, words);
+            spent = let a = l.spent in let t = r.spent in omega (arith, spent);
           })
 
       pub handled_answered : (result : Result Output Status) (shown given : List ℕ) → TellsFailure w result mark → AnswersReply result after.reply → given ≡ buffer_after shown after.reply →
           IsAnswered w old.pass.me.0 new.pass.me.0 request rank result shown given
-      handled_answered result shown given failure answers buffer = record {
-        turns = turns;
-        mark = mark;
-        before = before;
-        entry = e;
-        called = made;
-        failure = failure;
-        replied = λ start is tells told.
-            let same : after.reply ≡ (outcome_of (replay start before) e).reply = sym (ap (λ (s : Served). s.reply) (applies start is tells)) in
-            (subst (AnswersReply result) same answers, buffer ∙ ap (buffer_after shown) same);
-      }
+      handled_answered = applied_answered w n old new r (spent_by lease) request mark rank before e made first last after applies
 
-  -- the handle doesn't wait for its end more than it did, but by one
-  pub waits : handle ≤ 4 → busy (with_operation_at r.operations handle operation) + once (not (is_inactive (operation_at r.operations handle))) ≤ busy r.operations + 1
-  waits last = let inside : handle - 1 < length r.operations = let z = r.stand.count in omega arith in let b = busy_put r.operations (handle - 1) operation inside in let f = few (not (is_inactive operation)) in omega arith
+-- WHERE IT ASKED FOR ITS TURN FIRST
+
+-- the cells that the caller had stand as they stood before it asked
+pub still_stand : {D A C : Type 0} {old asking : Caller D A C} {operations : List HandleOperation} → SameButPass old asking → AreOperations old.handles.cells.items operations → AreOperations asking.handles.cells.items operations
+still_stand {operations = operations} same stand = subst (λ h. AreOperations h.cells.items operations) (sym same.handles) stand
+
+module _ {D A C : Type 0} (w : World D A C) (old asking : Caller D A C) (r : IsReady w 4 old) {request : Request} {rank handle : ℕ} {alive : Bool}
+    (ranked : IsRanked old.pass.me.0 asking.pass.me.0 request Plain rank old.pass.me.0.holding (KnowsBefore w (λ service. alive ≡ is_alive service.store (key_of_operation (operation_of service old.number handle)))))
+    (same : SameButPass old asking) (handles : Handles) (stream : RandomStream) (after : After Held) {lease : Option Reading} (changed : IsChanged asking.handles.cells.items handles.cells.items r.operations handle after.operation lease) where
+  abbrev settled : Caller D A C
+  settled = record asking { handles = handles; stream = stream }
+
+  abbrev change : IsChanged old.handles.cells.items handles.cells.items r.operations handle after.operation lease
+  change = subst (λ h. IsChanged h.cells.items handles.cells.items r.operations handle after.operation lease) same.handles changed
+
+  pub asked_back : IfSome lease (MayGoBack settled)
+  asked_back = goes_back w r settled settled (called ranked.after.entered) (same_out ranked.after.entered) same.spares after change
+
+  -- the one-thread service applies this to the handle
+  module _ (new : Caller D A C) (back : IsBack lease settled new) (first : 1 ≤ handle) (last : handle ≤ 4) {call : HandleCall} (asks : request ≡ OnHandle handle call)
+      (serves : (service : Service) → IsKnown w old r.operations service → alive ≡ is_alive service.store (key_of_operation (operation_of service old.number handle)) → serve service old.number (OnHandle handle call) Plain ≡ applied service old.number handle after) where
+    applies : KnowsBefore w (λ service. outcome_of service ranked.after.entry ≡ applied service old.number handle after) ranked.before ranked.after.entry
+    applies start is tells =
+        let i = ranked.after.entered in
+        outcome_is (replay start ranked.before) ranked.after.entry old.number (OnHandle handle call) Plain (i.by ∙ r.number) (i.call_is ∙ asks) i.mark_is
+        ∙ serves (replay start ranked.before) (known w 4 old asking r 1 request Plain rank ranked.before ranked.after.entry (called i) start is tells) (ranked.after.decided start is tells)
+
+    pub asked_ready : IsAt w new.pass → Legal w (entries_of new.pass.me.0.seen) → stream ≡ drawn_from old.stream after.drawn → stream.place ≤ old.stream.place + 256 → IsReady w 0 new
+    asked_ready at legal drawn words =
+        handled_ready w r settled new (called ranked.after.entered) (same_out ranked.after.entered) same.spares after change back first last applies at legal same.number same.spent drawn words
+        (let f = few (not (is_inactive after.operation)) in omega arith)
+
+    pub asked_answered : (result : Result Output Status) (shown given : List ℕ) → TellsFailure w result Plain → AnswersReply result after.reply → given ≡ buffer_after shown after.reply → IsAnswered w old.pass.me.0 new.pass.me.0 request rank result shown given
+    asked_answered = handled_answered w r settled new (called ranked.after.entered) (same_out ranked.after.entered) same.spares after change back first last applies
+
+-- a step is the one-thread service's
+pub steps : {D A C : Type 0} {w : World D A C} {old : Caller D A C} {operations : List HandleOperation} (service : Service) (handle : ℕ) (step : Step) (room : ℕ) {alive : Bool} {stream : RandomStream} → stream ≡ old.stream → 1 ≤ handle → handle ≤ 4 →
+    IsKnown w old operations service → alive ≡ is_alive service.store (key_of_operation (operation_of service old.number handle)) →
+    serve service old.number (OnHandle handle (model_step step room)) Plain ≡ applied service old.number handle (stepped_by alive (next_bytes stream 16) (operation_at operations handle) (model_step step room))
+steps {old = old} service handle step room same first last k lives =
+    steps_are service old.number handle step room
+    ∙ (λ i. applied service old.number handle (stepped_by (sym lives i) ((k.random 16 ∙ ap (λ x. next_bytes x 16) (sym same)) i) (k.own.each handle first last i) (model_step step room)))
+
+-- WHERE IT ABORTED
+
+by_finding : (b : Bool) (P : Type 0) → (b ≡ true → P) → (b ≡ false → P) → P
+by_finding true P found other = found refl
+by_finding false P found other = other refl
+
+module _ {D A C : Type 0} (w : World D A C) {n : ℕ} {old : Caller D A C} (r : IsReady w n old) (settled new : Caller D A C) {request : Request} {rank : ℕ} {before : List Entry} {e : Entry}
+    (i : IsEntered old.pass.me.0 settled.pass.me.0 request Plain rank old.pass.me.0.holding before e) (spares : settled.spares ≡ old.spares)
+    {handle : ℕ} {lease : Option Reading} (change : IsChanged old.handles.cells.items settled.handles.cells.items r.operations handle Inactive lease) (back : IsBack lease settled new)
+    (first : 1 ≤ handle) (last : handle ≤ 4) (asks : request ≡ OnHandle handle Abort) where
+  aborts : KnowsBefore w (λ service. outcome_of service e ≡ applied service old.number handle (ends done)) before e
+  aborts start is tells = outcome_is (replay start before) e old.number (OnHandle handle Abort) Plain (i.by ∙ r.number) (i.call_is ∙ asks) i.mark_is
+
+  -- an operation that is over has no end that counted
+  aborted_ready : 2 ≤ n + 2 * once (not (is_inactive (operation_at r.operations handle))) → IsAt w new.pass → Legal w (entries_of new.pass.me.0.seen) → settled.number ≡ old.number → settled.stream ≡ old.stream → settled.spent ≡ old.spent → IsReady w 0 new
+  aborted_ready pays at legal number stream spent =
+      handled_ready w r settled new (called i) (same_out i) spares (ends done) change back first last aborts at legal number spent (stream ∙ draws_none old.stream) (let p = ap (λ s. s.place) stream in omega arith) (omega (arith, pays))
+
+  pub aborted_answered : (buffer : List ℕ) → IsAnswered w old.pass.me.0 new.pass.me.0 request rank (Ok Done) buffer buffer
+  aborted_answered buffer = handled_answered w r settled new (called i) (same_out i) spares (ends done) change back first last aborts (Ok Done) buffer buffer (λ start is. refl) refl refl
+
+-- by whether the operation was inactive, and the abort has counted
+pub aborted : {D A C : Type 0} (w : World D A C) {old : Caller D A C} (r : IsReady w 0 old) (settled new : Caller D A C) {request : Request} {rank : ℕ} {before : List Entry} {e : Entry} {handle : ℕ} {lease : Option Reading} →
+    ((operations : List HandleOperation) → AreOperations old.handles.cells.items operations → is_inactive (operation_at operations handle) ≡ true → IsReady w 4 old) →
+    IsEntered old.pass.me.0 settled.pass.me.0 request Plain rank old.pass.me.0.holding before e → settled.spares ≡ old.spares →
+    ((operations : List HandleOperation) → AreOperations old.handles.cells.items operations → IsChanged old.handles.cells.items settled.handles.cells.items operations handle Inactive lease) → IsBack lease settled new →
+    1 ≤ handle → handle ≤ 4 → request ≡ OnHandle handle Abort → IsAt w new.pass → Legal w (entries_of new.pass.me.0.seen) → settled.number ≡ old.number → settled.stream ≡ old.stream → settled.spent ≡ old.spent → IsReady w 0 new
+aborted w r settled new {handle = handle} counted i spares changed back first last asks =
+    by_finding (is_inactive (operation_at r.operations handle)) _
+    (λ found. let more = counted r.operations r.stand found in aborted_ready w more settled new i spares (changed more.operations more.stand) back first last asks (omega arith))
+    (λ found. aborted_ready w r settled new i spares (changed r.operations r.stand) back first last asks (let k = ap (λ x. once (not x)) found in omega arith))

@@ -1,15 +1,16 @@
 -- A caller after a call that gives a derivation a key.
-use Rattle.std.proofs.Common.{All, Bool, Err, List, None, Ok, Option, Some, ap, arith, count_by, false, if◌then◌else◌, is_some, length, not, refl, subst, sym, true, vec_capacity, ℕ, ◌+◌, ◌-◌, ◌∙◌, ◌∷◌, ◌≡◌, ◌≤◌}
-use Rattle.callers.proofs.Common.{Active, After, Caller, DecidesAfter, DerivationWork, Deriving, Entry, FaultMark, HandleOperation, Held, HoldsLease, InError, Inactive, InputKey, IsAnswered, IsAt, IsCalled, IsChanged, IsClear, IsEntered, IsLent, IsReady, IsRefused, KeyCreation, KeyUse, KnowsBefore, Legal, OnHandle, Operation, Own, Pairs, Plain, Reading, ReadsKey, RefusesKeyAt, Request, Service, Status, TakesKeyAt, World, applied, busy, bytes_of, counted, creation_of, derivation_part, done, entries_of, fails, failure_marked, first_row, goes_on, handle_step, id_read, is_alive, is_inactive, key_of_operation, key_refused, key_step_rows, lease_pair, leases_of, mark_of, may_change_keys, on_part, operation_at, operation_of, outcome_of, own_of, part_of, refusal, replay, serve, takes_key, unless_failed, use_refusal, with_key, with_operation, with_operation_at, with_own}
+use Rattle.std.proofs.Common.{Bool, Err, List, None, Ok, Option, Some, ap, arith, false, if◌then◌else◌, is_some, not, refl, subst, sym, true, ℕ, ◌-◌, ◌∙◌, ◌∷◌, ◌≡◌, ◌≤◌}
+use Rattle.callers.proofs.Common.{Active, After, Caller, DecidesAfter, DerivationWork, Deriving, Entry, FaultMark, HandleOperation, Held, HoldsLease, InError, Inactive, InputKey, IsAnswered, IsAt, IsChanged, IsEntered, IsLent, IsReady, IsRefused, KeyCreation, KeyUse, KnowsBefore, Legal, OnHandle, Operation, Own, Pairs, Plain, Reading, ReadsKey, RefusesKeyAt, Request, Service, Status, TakesKeyAt, World, applied, bytes_of, counted, creation_of, derivation_part, done, entries_of, fails, failure_marked, first_row, goes_on, handle_step, id_read, is_alive, is_inactive, key_of_operation, key_refused, key_step_rows, lease_pair, mark_of, may_change_keys, on_part, operation_at, operation_of, outcome_of, own_of, part_of, refusal, replay, serve, takes_key, unless_failed, use_refusal, with_key, with_operation, with_own}
 use Rattle.psa_status.specs.declared.Status.TheVariants as status
 use Rattle.service_calls.specs.declared.output.Output.TheVariants as output
 use Rattle.store_model.specs.KeyUse as held
 use Rattle.operation_handles.proofs.ServedInputs.{inputs}
-use Rattle.callers.proofs.Beginning.{begun_answered, begun_ready}
-use Rattle.callers.proofs.CellLists.{busy_put, once, tally-cons}
+use Rattle.callers.proofs.Beginning.{IsBegun, begun_answered, changed_ready, kept_ready}
+use Rattle.callers.proofs.CellLists.{busy_put, once}
 use Rattle.callers.proofs.Failing.{refused_tells, use_plainly}
 use Rattle.callers.proofs.Journeys.{called}
-use Rattle.callers.proofs.Readying.{known, outcome_is, own_there}
+use Rattle.callers.proofs.Looking.{AreSpares}
+use Rattle.callers.proofs.Readying.{IsKnown, known, outcome_is, own_there}
 use Rattle.callers.proofs.SettingUp.{undrawn_own}
 use Rattle.callers.proofs.Storing.{decided_after}
 
@@ -47,23 +48,31 @@ derives_busy (Active held) w e = refl
 
 -- THE CALLER
 
-module _ {D A C : Type 0} (w : World D A C) (old new : Caller D A C) (r : IsReady w 4 old) (request : Request) (mark : FaultMark) (rank : ℕ) (own : Pairs) (before : List Entry) (e : Entry)
-    (i : IsEntered old.pass.me.0 new.pass.me.0 request mark rank own before e) (handle step id : ℕ) (wanted : KeyUse) (first : 1 ≤ handle) (last : handle ≤ 4)
+module _ {D A C : Type 0} (w : World D A C) (old new : Caller D A C) (r : IsReady w 4 old) {request : Request} {mark : FaultMark} {rank : ℕ} {own : Pairs} {before : List Entry} {e : Entry}
+    (i : IsEntered old.pass.me.0 new.pass.me.0 request mark rank own before e) {handle : ℕ} (first : 1 ≤ handle) (last : handle ≤ 4) (step id : ℕ) (wanted : KeyUse)
     (asks : request ≡ OnHandle handle (InputKey step id)) (takes : TakesKeyAt (operation_at r.operations handle) step wanted) where
-  abbrev asked : IsCalled old.pass.me.0 new.pass.me.0 1 request mark rank before e
-  asked = called old.pass.me.0 new.pass.me.0 request mark rank own before e i
-
   unchanging : may_change_keys e.call ≡ false
   unchanging = ap may_change_keys (i.call_is ∙ asks)
 
+  mine : KnowsBefore w (λ service. operation_of service old.number handle ≡ operation_at r.operations handle) before e
+  mine start is tells = (known w 4 old new r 1 request mark rank before e (called i) start is tells).own.each handle first last
+
   takes_there : KnowsBefore w (λ service. TakesKeyAt (operation_of service old.number handle) step wanted) before e
-  takes_there start is tells = let k = known w 4 old new r 1 request mark rank before e asked start is tells in subst (λ o. TakesKeyAt o step wanted) (sym (k.own.each handle first last)) takes
+  takes_there start is tells = subst (λ o. TakesKeyAt o step wanted) (sym (mine start is tells)) takes
 
   -- the handle waits for its end as it did
-  waits : (operation : HandleOperation) → is_inactive operation ≡ false → busy (with_operation_at r.operations handle operation) ≤ busy r.operations + 0
-  waits operation active =
-      let b = busy_put r.operations (handle - 1) operation (let z = r.stand.count in omega arith) in let o = ap (λ x. once (not x)) (derives_busy (operation_at r.operations handle) takes.w takes.derives) in
-      let n = ap (λ x. once (not x)) active in omega arith
+  begun : (after : After Held) (applies : KnowsBefore w (λ service. outcome_of service e ≡ applied service old.number handle after) before e) {lent : ℕ} → after.drawn ≡ 0 → is_inactive after.operation ≡ false → new.number ≡ old.number → new.stream ≡ old.stream → new.spent ≡ old.spent →
+      AreSpares lent old.spares new.spares → IsBegun w old new r i first last after applies lent 0
+  begun after applies drawn active number stream spent spares = record {
+    number = number;
+    stream = stream;
+    spent = let z = spent in omega arith;
+    spares = spares;
+    drawn = drawn;
+    few = omega arith;
+    waits = let b = busy_put r.operations (handle - 1) after.operation (let z = r.stand.count in omega arith) in let o = ap (λ x. once (not x)) (derives_busy (operation_at r.operations handle) takes.w takes.derives) in
+        let n = ap (λ x. once (not x)) active in omega arith;
+  }
 
   -- the key is lent
   module _ (plain : mark ≡ Plain) (lease : Reading) (decided : DecidesAfter w (IsLent (use_refusal wanted) id lease) before e) where
@@ -73,33 +82,16 @@ module _ {D A C : Type 0} (w : World D A C) (old new : Caller D A C) (r : IsRead
     gives_key : KnowsBefore w (λ service. outcome_of service e ≡ applied service old.number handle given_key) before e
     gives_key start is tells =
         let service = replay start before in
-        let k = known w 4 old new r 1 request mark rank before e asked start is tells in
         let lent = decided_after w (IsLent (use_refusal wanted) id lease) before e unchanging decided start is tells in
         outcome_is service e old.number (OnHandle handle (InputKey step id)) Plain (i.by ∙ r.number) (i.call_is ∙ asks) (i.mark_is ∙ plain)
-        ∙ input_lent service old.number handle step id wanted (takes_there start is tells) lease takes.w (ap (part_of derivation_part) (k.own.each handle first last) ∙ takes.derives) lent
+        ∙ input_lent service old.number handle step id wanted (takes_there start is tells) lease takes.w (ap (part_of derivation_part) (mine start is tells) ∙ takes.derives) lent
 
     pub given_ready : HoldsLease old.handles.cells.items new.handles.cells.items r.operations handle given_key.operation lease → own ≡ lease_pair lease ∷ old.pass.me.0.holding → new.number ≡ old.number → new.stream ≡ old.stream →
-        new.spent ≡ old.spent → All IsClear new.spares.items → length new.spares.items + 1 ≡ length old.spares.items → 5 ≤ vec_capacity new.spares → IsAt w new.pass → Legal w (entries_of new.pass.me.0.seen) → IsReady w 0 new
-    given_ready kept held number stream spent clear many room at legal =
-        begun_ready w old new r request mark rank own before e i handle first last given_key gives_key 0 (record {
-          number = number;
-          stream = stream;
-          drawn = refl;
-          stand = kept.stand;
-          leases = λ f.
-              let a = ap (count_by f) held in let b = tally-cons f (lease_pair lease) old.pass.me.0.holding in let c = tally-cons f (lease_pair lease) (leases_of old.handles.cells.items) in
-              let d = r.leases f in let k = kept.leases f in omega arith;
-          clear = clear;
-          five = let a = kept.more in let f = r.five in let m = many in omega arith;
-          room = room;
-          waits = waits given_key.operation refl;
-          few = omega arith;
-          spent = let z = spent in omega arith;
-        }) (let z = r.spent in omega arith) at legal
+        new.spent ≡ old.spent → AreSpares 1 old.spares new.spares → IsAt w new.pass → Legal w (entries_of new.pass.me.0.seen) → IsReady w 0 new
+    given_ready kept held number stream spent spares = kept_ready w old new r i first last given_key gives_key (begun given_key gives_key refl refl number stream spent spares) kept held (let z = r.spent in omega arith)
 
     pub given_answered : (buffer : List ℕ) → IsAnswered w old.pass.me.0 new.pass.me.0 request rank (Ok output.Done) buffer buffer
-    given_answered buffer =
-        begun_answered w old new r request mark rank own before e i handle first last given_key gives_key (Ok output.Done) buffer (λ start is. ap failure_marked (sym plain)) refl refl
+    given_answered = begun_answered w old new r i first last given_key gives_key (Ok output.Done) (λ start is. ap failure_marked (sym plain)) refl (λ buffer. refl)
 
   -- it isn't
   module _ (why : Status) (marked : mark ≡ mark_of why) (decided : DecidesAfter w (IsRefused (use_refusal wanted) id why) before e) where
@@ -110,26 +102,13 @@ module _ {D A C : Type 0} (w : World D A C) (old new : Caller D A C) (r : IsRead
         ∙ input_refused service old.number handle step id wanted (takes_there start is tells) why (decided_after w (IsRefused (use_refusal wanted) id why) before e unchanging decided start is tells)
 
     pub failed_ready : IsChanged old.handles.cells.items new.handles.cells.items r.operations handle InError None → own ≡ old.pass.me.0.holding → new.number ≡ old.number → new.stream ≡ old.stream → new.spent ≡ old.spent →
-        All IsClear new.spares.items → length new.spares.items ≡ length old.spares.items → 5 ≤ vec_capacity new.spares → IsAt w new.pass → Legal w (entries_of new.pass.me.0.seen) → IsReady w 0 new
-    failed_ready change held number stream spent clear many room at legal =
-        begun_ready w old new r request mark rank own before e i handle first last (fails why) refuses_key 0 (record {
-          number = number;
-          stream = stream;
-          drawn = refl;
-          stand = change.stand;
-          leases = λ f. ap (count_by f) held ∙ (r.leases f ∙ sym (change.leases f));
-          clear = clear;
-          five = let a = change.fewer in let f = r.five in let m = many in omega arith;
-          room = room;
-          waits = waits InError refl;
-          few = omega arith;
-          spent = let z = spent in omega arith;
-        }) (let z = r.spent in omega arith) at legal
+        AreSpares 0 old.spares new.spares → IsAt w new.pass → Legal w (entries_of new.pass.me.0.seen) → IsReady w 0 new
+    failed_ready change held number stream spent spares = changed_ready w old new r i first last (fails why) refuses_key (begun (fails why) refuses_key refl refl number stream spent spares) change held (let z = r.spent in omega arith)
 
     pub failed_answered : (buffer : List ℕ) → IsAnswered w old.pass.me.0 new.pass.me.0 request rank (Err why) buffer buffer
-    failed_answered buffer =
-        begun_answered w old new r request mark rank own before e i handle first last (fails why) refuses_key (Err why) buffer
-        (λ start is. let d = decided start is in refused_tells (use_refusal wanted) (use_plainly wanted) id why d.0 d.2 ∙ ap failure_marked (sym marked)) (refl, refl) refl
+    failed_answered =
+        begun_answered w old new r i first last (fails why) refuses_key (Err why)
+        (λ start is. let d = decided start is in refused_tells (use_refusal wanted) (use_plainly wanted) id why d.0 d.2 ∙ ap failure_marked (sym marked)) (refl, refl) (λ buffer. refl)
 
 -- the call reads its key, in whatever history it is entered
 pub reads_secret : {D A C : Type 0} (w : World D A C) (old : Caller D A C) (r : IsReady w 4 old) (request : Request) (handle step id : ℕ) (wanted : KeyUse) → 1 ≤ handle → handle ≤ 4 → request ≡ OnHandle handle (InputKey step id) →
@@ -154,13 +133,10 @@ refusal_draws_none alive o step = refused_drawn None (part_of derivation_part o)
     by w None = refl
     by w (Some status) = refl
 
-pub untimely : {D A C : Type 0} (w : World D A C) (n : ℕ) (old new : Caller D A C) (r : IsReady w n old) (turns handle step id rank : ℕ) (before : List Entry) (e : Entry) (alive : Bool) (request : Request) →
-    request ≡ OnHandle handle (InputKey step id) → IsCalled old.pass.me.0 new.pass.me.0 turns request Plain rank before e → 1 ≤ handle → handle ≤ 4 → RefusesKeyAt (operation_at r.operations handle) step →
-    KnowsBefore w (λ service. alive ≡ is_alive service.store (key_of_operation (operation_of service old.number handle))) before e →
-    KnowsBefore w (λ service. outcome_of service e ≡ applied service old.number handle (key_refused alive (operation_at r.operations handle) step)) before e
-untimely w n old new r turns handle step id rank before e alive request asks c first last refuses lives start is tells =
-    let service = replay start before in
-    let k = known w n old new r turns request Plain rank before e c start is tells in let mine = k.own.each handle first last in
-    outcome_is service e old.number (OnHandle handle (InputKey step id)) Plain (c.by ∙ r.number) (c.call_is ∙ asks) c.mark_is
-    ∙ (inputs.untimely service old.number handle step id (subst (λ o. RefusesKeyAt o step) (sym mine) refuses)
-    ∙ (λ i. applied service old.number handle (key_refused (sym (lives start is tells) i) (mine i) step)))
+pub untimely : {D A C : Type 0} {w : World D A C} {old : Caller D A C} {operations : List HandleOperation} (service : Service) (handle step id : ℕ) {alive : Bool} → 1 ≤ handle → handle ≤ 4 → RefusesKeyAt (operation_at operations handle) step →
+    IsKnown w old operations service → alive ≡ is_alive service.store (key_of_operation (operation_of service old.number handle)) →
+    serve service old.number (OnHandle handle (InputKey step id)) Plain ≡ applied service old.number handle (key_refused alive (operation_at operations handle) step)
+untimely {old = old} service handle step id first last refuses k lives =
+    let mine = k.own.each handle first last in
+    inputs.untimely service old.number handle step id (subst (λ o. RefusesKeyAt o step) (sym mine) refuses)
+    ∙ (λ i. applied service old.number handle (key_refused (sym lives i) (mine i) step))

@@ -11,22 +11,22 @@ begins_through whole middle part s t = (t.0 ++ s.0, s.1 ∙ (ap (λ l. l ++ s.0)
 pub seen_begins : {B : Type 0} (v w : View Entry B) → StartsWith w.seen v.seen → StartsWith (entries_of w.seen) (entries_of v.seen)
 seen_begins v w s = (entries_of s.0, ap entries_of s.1 ∙ entries-append v.seen s.0)
 
-module _ {B : Type 0} where
-  -- the ranked turn alone
-  pub called : (v w : View Entry B) (call : Request) (mark : FaultMark) (r : ℕ) (own : Pairs) (before : List Entry) (e : Entry) → IsEntered v w call mark r own before e → IsCalled v w 1 call mark r before e
-  called v w call mark r own before e i = record {
-    number = i.on.number;
-    weight = i.on.weight;
-    left = i.on.turns_left;
-    goes_on = i.goes_on;
-    placed = ([], i.seen ∙ sym (append_none (before ++ e ∷ [])));
-    rank = i.rank;
-    by = i.by;
-    call_is = i.call_is;
-    mark_is = i.mark_is;
-    calls = i.calls;
-  }
+-- the ranked turn alone
+pub called : {B : Type 0} {v w : View Entry B} {call : Request} {mark : FaultMark} {r : ℕ} {own : Pairs} {before : List Entry} {e : Entry} → IsEntered v w call mark r own before e → IsCalled v w 1 call mark r before e
+called {before = before} {e = e} i = record {
+  number = i.on.number;
+  weight = i.on.weight;
+  left = i.on.turns_left;
+  goes_on = i.goes_on;
+  placed = ([], i.seen ∙ sym (append_none (before ++ e ∷ [])));
+  rank = i.rank;
+  by = i.by;
+  call_is = i.call_is;
+  mark_is = i.mark_is;
+  calls = i.calls;
+}
 
+module _ {B : Type 0} where
   -- and a turn without rank after it
   pub called_then : (v u w : View Entry B) (turns : ℕ) (call : Request) (mark : FaultMark) (r : ℕ) (own : Pairs) (before : List Entry) (e : Entry) → IsCalled v u turns call mark r before e → IsLater u w own →
       IsCalled v w (turns + 1) call mark r before e

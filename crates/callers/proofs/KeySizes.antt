@@ -46,7 +46,7 @@ many_alike store caller a n m h k =
     same_after (first_row (file_rows store a)) a (λ stated. checked stated n driver >>= after) (λ stated. checked stated m driver >>= after)
     (ap (λ r. r >>= after) (many_refused a n driver h ∙ sym (many_refused a m driver k)))
 
-few_or_many : (n : ℕ) (many : Bool) → nat_lt 1024 n ≡ many → (n ≤ 1024) ⊎ (1024 < n)
+pub few_or_many : (n : ℕ) (many : Bool) → nat_lt 1024 n ≡ many → (n ≤ 1024) ⊎ (1024 < n)
 few_or_many n true e = inr (grind (arith, nat_tests))
 few_or_many n false e = inl (grind (arith, nat_tests))
 

@@ -8,9 +8,6 @@ pub mod Asking
 pub mod Storing
 pub mod Changing
 pub mod Handling
-pub mod Handled
-pub mod Stepping
-pub mod Aborting
 pub mod SettingUp
 pub mod Beginning
 pub mod Looking
@@ -19,7 +16,6 @@ pub mod WithKeys
 pub mod ByElement
 pub mod Computing
 pub mod Made
-pub mod Creating
 pub mod Generating
 pub mod Inputting
 pub mod KeySizes

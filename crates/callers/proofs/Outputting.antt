@@ -1,6 +1,6 @@
 -- A caller after a call that creates a key of derived bytes.
 use Rattle.std.proofs.Common.{All, Bool, Err, List, None, Ok, Option, Result, Some, [], ap, arith, count_by, false, get_or, if◌then◌else◌, inr, length, min, nat_lt, not, refl, subst, sym, take, take_all, true, vec_capacity, ℕ, ◌&&◌, ◌+◌, ◌-◌, ◌<◌, ◌==◌, ◌∙◌, ◌∷◌, ◌≡◌, ◌≤◌}
-use Rattle.callers.proofs.Common.{Active, AreOperations, Attributes, Caller, Cell, CreatesKey, DecidesBefore, DerivationWork, Deriving, Entry, HandleOperation, InError, Inactive, InsufficientData, IsAnswered, IsAt, IsBack, IsCalled, IsChanged, IsClear, IsCreated, IsDerivedKey, IsMade, IsOperation, IsOwn, IsOwnPart, IsReady, IsReplied, IsSound, IsUnmade, KeyId, KnowsBefore, LeavesAllKeys, Legal, NotMade, OnHandle, Operation, OutputKey, Pairs, Plain, RandomStream, Reading, RecordsStated, Reply, Request, Served, Service, Status, Store, Success, TellsFailure, World, applied, created, derivation_part, derived_key_refused, draws_none, entries_of, exhausted, fails, first_row, first_row-back, goes_on, has_live_key, is_active, is_alive, is_destruction, key_of_operation, leases_of, mark_unmade, next_derived, on_part, operation_at, operation_of, outcome_of, output_key_refusal, output_key_rows, outputs, own_of, part_of, plain_step, refused_by, replay, start_of, stated_bytes, status_unmade, taken_from, unless_failed, with_operation, with_operation_at, without}
+use Rattle.callers.proofs.Common.{Active, AreOperations, Attributes, Caller, Cell, CreatesKey, DecidesBefore, DerivationWork, Deriving, HandleOperation, InError, Inactive, InsufficientData, IsAnswered, IsAt, IsBack, IsCalled, IsChanged, IsClear, IsCreated, IsDerivedKey, IsMade, IsOperation, IsOwn, IsOwnPart, IsReady, IsReplied, IsSound, IsUnmade, KeyId, KnowsBefore, LeavesAllKeys, Legal, NotMade, OnHandle, Operation, OutputKey, Pairs, Plain, RandomStream, Reading, RecordsStated, Reply, Request, Served, Service, Status, Store, Success, TellsFailure, World, applied, created, derivation_part, derived_key_refused, draws_none, entries_of, exhausted, fails, first_row, first_row-back, goes_on, has_live_key, is_active, is_alive, is_destruction, key_of_operation, leases_of, mark_unmade, next_derived, on_part, operation_at, operation_of, outcome_of, output_key_refusal, output_key_rows, outputs, own_of, part_of, plain_step, refused_by, replay, serve, start_of, stated_bytes, status_unmade, taken_from, unless_failed, with_drawn, with_operation, with_operation_at, without}
 use Rattle.std.proofs.lemmas.List.{get_or-set_same, length-take-le, set-set}
 use Rattle.callers.specs.HandleCalls.{FailsDerivation, without_bytes}
 use Rattle.service_calls.specs.declared.output.Output.TheVariants as output
@@ -10,11 +10,11 @@ use Rattle.callers.proofs.Asking.{leased_key, unleased_key}
 use Rattle.callers.proofs.Beginning.{at_handle}
 use Rattle.callers.proofs.CellLists.{busy_put, cell_at, named_alike, names_is, names_lease, once, tally-cons}
 use Rattle.callers.proofs.Deriving.{IsLeaseOf, derived_leaves, derived_replies, made_owns, underived_key}
-use Rattle.callers.proofs.Handling.{few_turns, handled_answered, handled_ready, made as turned_back, waits}
+use Rattle.callers.proofs.Handling.{handled_answered, handled_ready, made as turned_back}
 use Rattle.callers.proofs.Inputting.{derives_busy, refused_drawn}
 use Rattle.callers.proofs.Made.{made_gives}
 use Rattle.callers.proofs.Owned.{set_operation, set_own, sound_replay}
-use Rattle.callers.proofs.Readying.{known, outcome_is, own_there, ready}
+use Rattle.callers.proofs.Readying.{IsKnown, answered, known, outcome_is, own_there, ready}
 use Rattle.callers.proofs.SettingUp.{undrawn_own}
 use Rattle.callers.proofs.Storing.{decided_known}
 
@@ -154,20 +154,14 @@ module _ {D A C : Type 0} (w : World D A C) (old : Caller D A C) (r : IsReady w 
             stand = change.stand;
             own = λ start is tells.
                 let service = replay start c.before in
-                let k = known w 4 old new r 2 request Plain rank c.before c.entry c.called start is tells in let mine = k.own.each handle first last in
-                let there = made start is tells in
+                let k = known w 4 old new r 2 request Plain rank c.before c.entry c.called start is tells in let mine = k.own.each handle first last in let there = made start is tells in let own = own_of service old.number in
                 let owns = made_owns service old.number handle a given.work k.sound (derives_here service k.sound mine) (passes_here service k.sound mine) lease (lease_here service k.sound mine) bytes given.short there.0 there.1 in
-                let key : after ≡ Active (record { key = key_of_operation (operation_of service old.number handle); work = Deriving (without given.work (stated_bytes a)) }) =
-                sym (ap (λ o. Active (record { key = key_of_operation o; work = Deriving (without given.work (stated_bytes a)) })) mine) in
-                let store = (created service.store old.number there.0 (next_derived given.work (stated_bytes a))).store in
-                let place = ap (λ (s : RandomStream). s.place) stream in
-                subst (λ (s : Served). IsOwnPart (with_operation_at r.operations handle after) new.stream.place (own_of s.service old.number))
-                (sym (outcome_is service c.entry old.number (OnHandle handle (OutputKey a)) Plain (c.called.by ∙ r.number) (c.called.call_is ∙ asks) c.called.mark_is))
-                (subst (λ (s : Service). IsOwnPart (with_operation_at r.operations handle after) new.stream.place (own_of s old.number)) (sym owns)
-                (subst (IsOwnPart (with_operation_at r.operations handle after) new.stream.place) (sym (set_own service store old.number (with_operation (own_of service old.number) handle _) k.sound r.last))
-                (subst (λ o. IsOwnPart (with_operation_at r.operations handle after) new.stream.place (with_operation (own_of service old.number) handle o)) key
-                (subst (IsOwnPart (with_operation_at r.operations handle after) new.stream.place) (sym (undrawn_own (with_operation (own_of service old.number) handle after)))
-                (set_operation r.operations old.stream.place (own_of service old.number) handle after 0 new.stream.place k.own r.stand.count first last (let p = place in omega arith))))));
+                let same : own_of (outcome_of service c.entry).service old.number ≡ with_drawn (with_operation own handle after) 0 =
+                ap (λ (s : Served). own_of s.service old.number) (outcome_is service c.entry old.number (OnHandle handle (OutputKey a)) Plain (c.called.by ∙ r.number) (c.called.call_is ∙ asks) c.called.mark_is)
+                ∙ (ap (λ (s : Service). own_of s old.number) owns ∙ (set_own service (created service.store old.number there.0 (next_derived given.work (stated_bytes a))).store old.number _ k.sound r.last
+                ∙ (ap (λ o. with_operation own handle (without_bytes o given.work (stated_bytes a))) mine ∙ undrawn_own (with_operation own handle after)))) in
+                subst (IsOwnPart (with_operation_at r.operations handle after) new.stream.place) (sym same)
+                (set_operation r.operations old.stream.place own handle after 0 new.stream.place k.own r.stand.count first last (let p = ap (λ (s : RandomStream). s.place) stream in omega arith));
             leases = λ f. c.holding f ∙ (r.leases f ∙ sym (change.leases f));
             clear = subst (λ v. All IsClear v.items) (sym spares) r.clear;
             five = let x = change.fewer in let y = ap (λ v. length v.items) spares in let f = r.five in omega arith;
@@ -181,25 +175,18 @@ module _ {D A C : Type 0} (w : World D A C) (old : Caller D A C) (r : IsReady w 
           })
 
       pub output_answered : (buffer : List ℕ) → IsAnswered w old.pass.me.0 new.pass.me.0 request rank (Ok (output.Identifier id)) buffer buffer
-      output_answered buffer = record {
-        turns = 2;
-        mark = Plain;
-        before = c.before;
-        entry = c.entry;
-        called = c.called;
-        failure = λ start is. refl;
-        replied = λ start is tells told.
-            let service = replay start c.before in
-            let k = known w 4 old new r 2 request Plain rank c.before c.entry c.called start is tells in let mine = k.own.each handle first last in
-            let gives = made_gives service old.number (OnHandle handle (OutputKey a)) Records bytes
-            (derived_replies service old.number handle a given.work k.sound (derives_here service k.sound mine) (passes_here service k.sound mine) lease (lease_here service k.sound mine) bytes given.short given.front) id (made start is tells) in
-            subst (λ (s : Served). IsReplied (Ok (output.Identifier id)) buffer buffer s.reply)
-            (sym (outcome_is service c.entry old.number (OnHandle handle (OutputKey a)) Plain (c.called.by ∙ r.number) (c.called.call_is ∙ asks) c.called.mark_is)) (gives.answers, gives.unwritten buffer);
-      }
+      output_answered buffer =
+          answered w 4 old new r 2 request Plain rank c.before c.entry c.called (Ok (output.Identifier id)) buffer buffer (λ start is. refl) (λ start is tells told.
+          let service = replay start c.before in
+          let k = known w 4 old new r 2 request Plain rank c.before c.entry c.called start is tells in let mine = k.own.each handle first last in
+          let gives = made_gives service old.number (OnHandle handle (OutputKey a)) Records bytes
+          (derived_replies service old.number handle a given.work k.sound (derives_here service k.sound mine) (passes_here service k.sound mine) lease (lease_here service k.sound mine) bytes given.short given.front) id (made start is tells) in
+          subst (λ (s : Served). IsReplied (Ok (output.Identifier id)) buffer buffer s.reply)
+          (sym (outcome_is service c.entry old.number (OnHandle handle (OutputKey a)) Plain (c.called.by ∙ r.number) (c.called.call_is ∙ asks) c.called.mark_is)) (gives.answers, gives.unwritten buffer))
 
     -- NONE IS MADE: the derivation is in error, and its lease goes back
     module _ (settled : Caller D A C) (why : NotMade) (c : IsCreated old.pass.me.0 settled.pass.me.0 request (mark_unmade why) rank (DecidesBefore w (IsUnmade Records why))) (back_lease : Option Reading)
-        (change : IsChanged old.handles.cells.items settled.handles.cells.items r.operations handle InError back_lease) (back : IsBack back_lease settled new) where
+        (spares : settled.spares ≡ old.spares) (change : IsChanged old.handles.cells.items settled.handles.cells.items r.operations handle InError back_lease) (back : IsBack back_lease settled new) where
       fails_there : (turns : ℕ) (made : IsCalled old.pass.me.0 new.pass.me.0 turns request (mark_unmade why) rank c.before c.entry) →
           KnowsBefore w (λ service. outcome_of service c.entry ≡ applied service old.number handle (fails (status_unmade why))) c.before c.entry
       fails_there turns made start is tells =
@@ -208,21 +195,17 @@ module _ {D A C : Type 0} (w : World D A C) (old : Caller D A C) (r : IsReady w 
           outcome_is service c.entry old.number (OnHandle handle (OutputKey a)) (mark_unmade why) (made.by ∙ r.number) (made.call_is ∙ asks) made.mark_is
           ∙ underived_key service old.number handle a given.work k.sound (derives_here service k.sound mine) (passes_here service k.sound mine) lease (lease_here service k.sound mine) bytes given.short why (decided_known w (IsUnmade Records why) c.before c.entry c.decided start is tells)
 
-      pub unmade_ready : settled.number ≡ old.number → settled.spares ≡ old.spares → settled.stream ≡ old.stream → settled.spent ≡ old.spent → IsAt w new.pass → Legal w (entries_of new.pass.me.0.seen) → IsReady w 0 new
-      unmade_ready number spares stream spent at legal =
-          handled_ready w 4 old settled new r request (mark_unmade why) rank c.before c.entry 2 c.called c.holding handle InError back_lease change back (fails (status_unmade why)) refl first last
-          (fails_there _ (turned_back w 4 old settled new r request (mark_unmade why) rank c.before c.entry 2 c.called c.holding handle InError back_lease change back))
-          0 at legal number spares (stream ∙ draws_none old.stream)
-          (let x = r.turns in let b = waits w 4 old settled new r request (mark_unmade why) rank c.before c.entry 2 c.called c.holding handle InError back_lease change last in
-          let o = ap (λ x. once (not x)) (derives_busy (operation_at r.operations handle) given.work given.derives) in
-          let d = few_turns w 4 old settled new r request (mark_unmade why) rank c.before c.entry 2 c.called c.holding handle InError back_lease change back_lease in let s = spent in omega arith)
-          (let x = r.words in let s = spent in let p = ap (λ (s : RandomStream). s.place) stream in omega arith) (let x = r.spent in let s = spent in omega arith)
+      applies : KnowsBefore w (λ service. outcome_of service c.entry ≡ applied service old.number handle (fails (status_unmade why))) c.before c.entry
+      applies = fails_there _ (turned_back w r settled new c.called c.holding spares (fails (status_unmade why)) change back)
 
-      pub unmade_answered : (buffer : List ℕ) → TellsFailure w (Err (status_unmade why)) (mark_unmade why) → IsAnswered w old.pass.me.0 new.pass.me.0 request rank (Err (status_unmade why)) buffer buffer
-      unmade_answered buffer failure =
-          handled_answered w 4 old settled new r request (mark_unmade why) rank c.before c.entry 2 c.called c.holding handle InError back_lease change back (fails (status_unmade why)) refl first last
-          (fails_there _ (turned_back w 4 old settled new r request (mark_unmade why) rank c.before c.entry 2 c.called c.holding handle InError back_lease change back))
-          (Err (status_unmade why)) buffer buffer failure (refl, refl) refl
+      pub unmade_ready : settled.number ≡ old.number → settled.stream ≡ old.stream → settled.spent ≡ old.spent → IsAt w new.pass → Legal w (entries_of new.pass.me.0.seen) → IsReady w 0 new
+      unmade_ready number stream spent at legal =
+          handled_ready w r settled new c.called c.holding spares (fails (status_unmade why)) change back first last applies at legal number spent (stream ∙ draws_none old.stream) (let p = ap (λ (s : RandomStream). s.place) stream in omega arith)
+          (let o = ap (λ x. once (not x)) (derives_busy (operation_at r.operations handle) given.work given.derives) in omega arith)
+
+      pub unmade_answered : TellsFailure w (Err (status_unmade why)) (mark_unmade why) → (buffer : List ℕ) → IsAnswered w old.pass.me.0 new.pass.me.0 request rank (Err (status_unmade why)) buffer buffer
+      unmade_answered failure buffer =
+          handled_answered w r settled new c.called c.holding spares (fails (status_unmade why)) change back first last applies (Err (status_unmade why)) buffer buffer failure (refl, refl) refl
 
 -- A KEY THAT THE DERIVATION REFUSES
 
@@ -237,16 +220,13 @@ output_draws_none alive o a = refused_drawn None (part_of derivation_part o) ali
     by w None = taken (nat_lt w.capacity (stated_bytes a)) w (stated_bytes a) (given_bytes (next_derived w (stated_bytes a)))
     by w (Some status) = refl
 
-pub undue : {D A C : Type 0} (w : World D A C) (n : ℕ) (old new : Caller D A C) (r : IsReady w n old) (turns handle : ℕ) (a : Attributes) (rank : ℕ) (before : List Entry) (e : Entry) (alive : Bool) (request : Request) →
-    request ≡ OnHandle handle (OutputKey a) → IsCalled old.pass.me.0 new.pass.me.0 turns request Plain rank before e → 1 ≤ handle → handle ≤ 4 → (output_key_refusal (part_of derivation_part (operation_at r.operations handle)) a ≡ None → ⊥) →
-    KnowsBefore w (λ service. alive ≡ is_alive service.store (key_of_operation (operation_of service old.number handle))) before e →
-    KnowsBefore w (λ service. outcome_of service e ≡ applied service old.number handle (derived_key_refused alive (operation_at r.operations handle) a)) before e
-undue w n old new r turns handle a rank before e alive request asks c first last refuses lives start is tells =
-    let service = replay start before in
-    let k = known w n old new r turns request Plain rank before e c start is tells in let mine = k.own.each handle first last in
-    outcome_is service e old.number (OnHandle handle (OutputKey a)) Plain (c.by ∙ r.number) (c.call_is ∙ asks) c.mark_is
-    ∙ (outputs.refused service old.number handle a (λ none. refuses (sym (ap (λ o. output_key_refusal (part_of derivation_part o) a) mine) ∙ none))
-    ∙ (λ i. applied service old.number handle (derived_key_refused (sym (lives start is tells) i) (mine i) a)))
+pub undue : {D A C : Type 0} {w : World D A C} {old : Caller D A C} {operations : List HandleOperation} (service : Service) (handle : ℕ) (a : Attributes) {alive : Bool} → 1 ≤ handle → handle ≤ 4 →
+    (output_key_refusal (part_of derivation_part (operation_at operations handle)) a ≡ None → ⊥) → IsKnown w old operations service → alive ≡ is_alive service.store (key_of_operation (operation_of service old.number handle)) →
+    serve service old.number (OnHandle handle (OutputKey a)) Plain ≡ applied service old.number handle (derived_key_refused alive (operation_at operations handle) a)
+undue {old = old} service handle a first last refuses k lives =
+    let mine = k.own.each handle first last in
+    outputs.refused service old.number handle a (λ none. refuses (sym (ap (λ o. output_key_refusal (part_of derivation_part o) a) mine) ∙ none))
+    ∙ (λ i. applied service old.number handle (derived_key_refused (sym lives i) (mine i) a))
 
 refuses_row : (w : DerivationWork) (a : Attributes) (status : Status) → first_row (output_key_rows w a) ≡ Some status → status ≡ Success → ⊥
 refuses_row w a = refused_by (λ status. status ≡ Success → ⊥) (output_key_rows w a) (λ on is. cc, (λ on is. cc, (λ on is. cc, (λ on is. cc, tt))))

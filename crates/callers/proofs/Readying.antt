@@ -1,8 +1,8 @@
 -- What is known of the one-thread service at a caller's entry, and the caller after the call.
-use Rattle.std.proofs.Common.{All, List, [], ap, arith, length, refl, subst, sym, vec_capacity, ℕ, ◌*◌, ◌++◌, ◌+◌, ◌^◌, ◌∙◌, ◌∷◌, ◌≡◌, ◌≤◌}
-use Rattle.callers.proofs.Common.{AreOperations, ArePairs, Caller, Entry, FaultMark, GoesOn, HandleOperation, IsAt, IsCalled, IsClear, IsOwnPart, IsReady, IsSound, IsToldTo, KnowsBefore, Legal, Request, Service, Settings, Starts, TURNS, World, busy, entries_of, leases_of, leaves_settings, next_bytes, next_random, outcome_of, own_of, random_bytes, replay, serve, start_of}
+use Rattle.std.proofs.Common.{All, List, Result, [], ap, arith, length, refl, subst, sym, vec_capacity, ℕ, ◌*◌, ◌++◌, ◌+◌, ◌^◌, ◌∙◌, ◌∷◌, ◌≡◌, ◌≤◌}
+use Rattle.callers.proofs.Common.{After, AnswersReply, AreOperations, ArePairs, Caller, Entry, FaultMark, GoesOn, HandleOperation, Held, IsAnswered, IsAt, IsCalled, IsClear, IsOwnPart, IsReady, IsReplied, IsSound, IsToldTo, KnowsBefore, Legal, Output, Request, Served, Service, Settings, Starts, Status, TURNS, TellsFailure, TellsReply, World, applied, buffer_after, busy, entries_of, leases_of, leaves_settings, next_bytes, next_random, outcome_of, own_of, random_bytes, replay, serve, start_of, with_operation_at, words_used}
 use Rattle.callers.proofs.Journeys.{own_after, own_on, told_front}
-use Rattle.callers.proofs.Owned.{sound_replay}
+use Rattle.callers.proofs.Owned.{applied_own, sound_replay}
 
 pub outcome_is : (service : Service) (e : Entry) (n : ℕ) (request : Request) (mark : FaultMark) → e.caller ≡ n → e.call ≡ request → e.mark ≡ mark → outcome_of service e ≡ serve service n request mark
 outcome_is service e n request mark by called marked = λ i. serve service (by i) (called i) (marked i)
@@ -53,6 +53,19 @@ module _ {D A C : Type 0} (w : World D A C) where
           random = random_there n old r start before is c.goes_on here;
         }
 
+    -- what is answered
+    pub answered : (result : Result Output Status) (shown given : List ℕ) → TellsFailure w result mark → Knows (λ service. TellsReply w service old.number call → IsReplied result shown given (outcome_of service e).reply) before e →
+        IsAnswered w old.pass.me.0 new.pass.me.0 call rank result shown given
+    answered result shown given failure replied = record {
+      turns = turns;
+      mark = mark;
+      before = before;
+      entry = e;
+      called = c;
+      failure = failure;
+      replied = λ start is tells told. replied start is tells (subst (λ n. TellsReply w (replay start before) n call) r.number told);
+    }
+
     -- what a call changes of a caller beside its pass
     pub record IsMoved (changed : List HandleOperation) (slack : ℕ) : Type 0 where
       pub number : new.number ≡ old.number
@@ -95,3 +108,18 @@ module _ {D A C : Type 0} (w : World D A C) where
           words = m.words;
           spent = m.spent;
         }
+
+    -- by a call on a handle, to which the one-thread service applies this
+    module _ {handle : ℕ} (first : 1 ≤ handle) (last : handle ≤ 4) (after : After Held) (applies : Knows (λ service. outcome_of service e ≡ applied service old.number handle after) before e) where
+      pub applied_there : new.stream.place ≡ old.stream.place + words_used after.drawn → Knows (λ service. IsOwnPart (with_operation_at r.operations handle after.operation) new.stream.place (own_of (outcome_of service e).service old.number)) before e
+      applied_there place start is tells =
+          let k = known start is tells in
+          subst (λ (s : Served). IsOwnPart (with_operation_at r.operations handle after.operation) new.stream.place (own_of s.service old.number)) (sym (applies start is tells))
+          (applied_own (replay start before) old.number handle after r.operations old.stream.place new.stream.place k.sound r.last k.own r.stand.count first last place)
+
+      pub applied_answered : (result : Result Output Status) (shown given : List ℕ) → TellsFailure w result mark → AnswersReply result after.reply → given ≡ buffer_after shown after.reply →
+          IsAnswered w old.pass.me.0 new.pass.me.0 call rank result shown given
+      applied_answered result shown given failure answers buffer =
+          answered result shown given failure (λ start is tells told.
+          let same : after.reply ≡ (outcome_of (replay start before) e).reply = sym (ap (λ (s : Served). s.reply) (applies start is tells)) in
+          (subst (AnswersReply result) same answers, buffer ∙ ap (buffer_after shown) same))

@@ -1,10 +1,14 @@
--- A caller after a call on the store.
-use Rattle.std.proofs.Common.{All, Err, IfErr, IfOk, List, Ok, OnOk, Result, ap, arith, count_by, false, length, subst, sym, vec_capacity, ℕ, ◌∙◌, ◌≡◌, ◌≤◌}
-use Rattle.callers.proofs.Common.{AreOperations, ArePairs, Call, Caller, DecidesAfter, DecidesBefore, Entry, FaultMark, IsAnswered, IsAt, IsCalled, IsClear, IsEntered, IsOwnPart, IsReady, IsReplied, KnowsBefore, Legal, OnStore, Output, Pairs, Random, RandomStream, Request, SameButPass, Served, Service, Status, TellsFailure, TellsReply, World, counted, drawn_from, draws_none, entries_of, leases_of, leaves_shared, may_change_keys, next_random, outcome_of, own_of, replay, replay_push, serve, step, words_used}
+-- A caller after a call on the store. For one that creates a key a slot is reserved first, and a ranked turn follows.
+use Rattle.std.proofs.Common.{Err, IfErr, IfOk, List, Ok, OnOk, Result, ap, arith, count_by, false, length, subst, sym, ℕ, ◌∙◌, ◌≡◌, ◌≤◌, None, Option, Some, [], refl, ◌+◌, ◌<◌, ◌==◌, ◌∷◌}
+use Rattle.callers.proofs.Common.{AreOperations, ArePairs, Call, Caller, DecidesAfter, DecidesBefore, Entry, FaultMark, IsAnswered, IsAt, IsCalled, IsOwnPart, IsRanked, IsReady, IsReplied, KnowsBefore, Legal, OnStore, Output, Random, RandomStream, Request, SameButPass, Served, Service, Status, TellsFailure, TellsReply, World, counted, drawn_from, draws_none, entries_of, leases_of, leaves_shared, may_change_keys, next_random, outcome_of, own_of, replay, replay_push, serve, step, words_used, Attributes, Cell, CreatesKey, HasNoFilling, IsCreated, IsLater, Opened, Pairs, View, filling_pair, names, nat_tests, pairs_of, without_pair}
 use Rattle.store_model.specs.Store as model
-use Rattle.callers.proofs.Journeys.{called}
+use Rattle.slot_table.specs.Lent as lent
+use Rattle.callers.proofs.CellLists.{first_named, once, tally-append, tally-cons, without}
+use Rattle.callers.proofs.Journeys.{called, goes_on_before, then_called}
+use Rattle.callers.proofs.KeyReplies.{Gives}
+use Rattle.callers.proofs.Looking.{AreSpares, same_spares}
 use Rattle.callers.proofs.Owned.{undrawn_own}
-use Rattle.callers.proofs.Readying.{known, outcome_is, ready}
+use Rattle.callers.proofs.Readying.{answered, known, outcome_is, ready}
 
 -- no such call draws
 abbrev pub DrawsNone : Call → Type 0
@@ -26,9 +30,7 @@ module _ {D A C : Type 0} (w : World D A C) (old new : Caller D A C) (r : IsRead
     pub handles : new.handles ≡ old.handles
     pub stream : new.stream ≡ drawn_from old.stream drawn
     pub holding : ArePairs new.pass.me.0.holding old.pass.me.0.holding
-    pub clear : All IsClear new.spares.items
-    pub many : length new.spares.items ≡ length old.spares.items
-    pub room : vec_capacity new.spares ≡ vec_capacity old.spares
+    pub spares : AreSpares 0 old.spares new.spares
 
   pub kept_ready : (drawn : ℕ) → words_used drawn ≤ 256 → turns ≤ 4 → IsKept drawn → IsAt w new.pass → Legal w (entries_of new.pass.me.0.seen) →
       Serves (λ s. IsOwnPart r.operations new.stream.place (own_of s.service old.number)) → IsReady w 0 new
@@ -39,9 +41,9 @@ module _ {D A C : Type 0} (w : World D A C) (old new : Caller D A C) (r : IsRead
         own = λ start is tells.
             subst (λ (s : Served). IsOwnPart r.operations new.stream.place (own_of s.service old.number)) (sym (outcome (replay start before))) (own start is tells);
         leases = λ f. kept.holding f ∙ (r.leases f ∙ ap (λ h. count_by f (leases_of h.cells.items)) (sym kept.handles));
-        clear = kept.clear;
-        five = let a = ap (λ h. length (leases_of h.cells.items)) kept.handles in let b = kept.many in let f = r.five in omega arith;
-        room = let a = kept.room in let f = r.room in omega arith;
+        clear = kept.spares.clear;
+        five = let a = ap (λ h. length (leases_of h.cells.items)) kept.handles in let b = kept.spares.many in let f = r.five in omega arith;
+        room = let a = kept.spares.room in let f = r.room in omega arith;
         seed = ap (λ (s : RandomStream). s.seed) kept.stream;
         stream_of = ap (λ (s : RandomStream). s.caller) kept.stream;
         turns_are = let t = r.turns in omega arith;
@@ -51,43 +53,41 @@ module _ {D A C : Type 0} (w : World D A C) (old new : Caller D A C) (r : IsRead
 
   pub kept_answered : (result : Result Output Status) (shown given : List ℕ) → TellsFailure w result mark →
       KnowsBefore w (λ service. TellsReply w service old.number (OnStore call) → IsReplied result shown given (serve service old.number (OnStore call) mark).reply) before e → IsAnswered w old.pass.me.0 new.pass.me.0 request rank result shown given
-  kept_answered result shown given failure replied = record {
-    turns = turns;
-    mark = mark;
-    before = before;
-    entry = e;
-    called = c;
-    failure = failure;
-    replied = λ start is tells told.
-        subst (λ (s : Served). IsReplied result shown given s.reply) (sym (outcome (replay start before)))
-        (replied start is tells (subst (λ n. TellsReply w (replay start before) n (OnStore call)) r.number (subst (TellsReply w (replay start before) old.pass.me.0.number) asks told)));
-  }
+  kept_answered result shown given failure replied =
+      answered w 4 old new r turns request mark rank before e c result shown given failure (λ start is tells told.
+      subst (λ (s : Served). IsReplied result shown given s.reply) (sym (outcome (replay start before))) (replied start is tells (subst (TellsReply w (replay start before) old.number) asks told)))
 
 -- one turn, which draws nothing
-module _ {D A C : Type 0} (w : World D A C) (old new : Caller D A C) (r : IsReady w 4 old) (request : Request) (call : Call) (asks : request ≡ OnStore call) (mark : FaultMark) (rank : ℕ) (own : Pairs) (before : List Entry) (e : Entry)
-    (i : IsEntered old.pass.me.0 new.pass.me.0 request mark rank own before e) where
-  abbrev made : IsCalled old.pass.me.0 new.pass.me.0 1 request mark rank before e
-  made = called old.pass.me.0 new.pass.me.0 request mark rank own before e i
+module _ {D A C : Type 0} (w : World D A C) (old new : Caller D A C) (r : IsReady w 4 old) {request : Request} (call : Call) (asks : request ≡ OnStore call) {mark : FaultMark} {rank : ℕ} {Decided : List Entry → Entry → Type 0}
+    (ranked : IsRanked old.pass.me.0 new.pass.me.0 request mark rank old.pass.me.0.holding Decided) where
+  abbrev made : IsCalled old.pass.me.0 new.pass.me.0 1 request mark rank ranked.before ranked.after.entry
+  made = called ranked.after.entered
 
-  pub stored_ready : own ≡ old.pass.me.0.holding → SameButPass old new → DrawsNone call → IsAt w new.pass → Legal w (entries_of new.pass.me.0.seen) → IsReady w 0 new
-  stored_ready held same none at legal = kept_ready w old new r 1 request call asks mark rank before e made 0 (omega arith) (omega arith) (record {
+  pub stored_ready : SameButPass old new → DrawsNone call → IsAt w new.pass → Legal w (entries_of new.pass.me.0.seen) → IsReady w 0 new
+  stored_ready same none at legal = kept_ready w old new r 1 request call asks mark rank ranked.before ranked.after.entry made 0 (omega arith) (omega arith) (record {
     number = same.number;
     spent = same.spent;
     handles = same.handles;
     stream = same.stream ∙ draws_none old.stream;
-    holding = λ f. ap (count_by f) (i.holding ∙ held);
-    clear = subst (λ v. All IsClear v.items) (sym same.spares) r.clear;
-    many = ap (λ v. length v.items) same.spares;
-    room = ap vec_capacity same.spares;
+    holding = λ f. ap (count_by f) ranked.after.entered.holding;
+    spares = same_spares r.clear same.spares;
   }) at legal (λ start is tells.
-      let service = replay start before in
-      let k = known w 4 old new r 1 request mark rank before e made start is tells in
+      let service = replay start ranked.before in
+      let k = known w 4 old new r 1 request mark rank ranked.before ranked.after.entry made start is tells in
       subst (λ n. IsOwnPart r.operations n (own_of (serve service old.number (OnStore call) mark).service old.number)) (sym (ap (λ (s : RandomStream). s.place) same.stream))
       (undrawn_own service old.number call mark r.operations old.stream.place k.sound r.last k.own (none service.store old.number (next_random service old.number))))
 
   pub stored_answered : (result : Result Output Status) (shown given : List ℕ) → TellsFailure w result mark →
-      KnowsBefore w (λ service. IsReplied result shown given (serve service old.number (OnStore call) mark).reply) before e → IsAnswered w old.pass.me.0 new.pass.me.0 request rank result shown given
-  stored_answered result shown given failure replied = kept_answered w old new r 1 request call asks mark rank before e made result shown given failure (λ start is tells told. replied start is tells)
+      KnowsBefore w (λ service. IsReplied result shown given (serve service old.number (OnStore call) mark).reply) ranked.before ranked.after.entry → IsAnswered w old.pass.me.0 new.pass.me.0 request rank result shown given
+  stored_answered result shown given failure replied =
+      kept_answered w old new r 1 request call asks mark rank ranked.before ranked.after.entry made result shown given failure (λ start is tells told. replied start is tells)
+
+  -- and leaves the buffer
+  pub stored : SameButPass old new → DrawsNone call → IsAt w new.pass → Legal w (entries_of new.pass.me.0.seen) → (result : Result Output Status) → TellsFailure w result mark →
+      KnowsBefore w (λ service. Gives result (serve service old.number (OnStore call) mark).reply) ranked.before ranked.after.entry →
+      IsReady w 0 new × ((buffer : List ℕ) → IsAnswered w old.pass.me.0 new.pass.me.0 request rank result buffer buffer)
+  stored same none at legal result failure gives =
+      (stored_ready same none at legal, λ buffer. stored_answered result buffer buffer failure (λ start is tells. let g = gives start is tells in (g.answers, g.unwritten buffer)))
 
 -- what was decided of the store before the entry is known of the service's
 pub decided_known : {D A C : Type 0} (w : World D A C) (P : model.Store → Type 0) (before : List Entry) (e : Entry) → DecidesBefore w P before e → KnowsBefore w (λ service. P service.store) before e
@@ -117,3 +117,75 @@ if_ok_as P Q (Err y) p f = tt
 pub if_err_as : {A E : Type 0} (P Q : E → Type 0) (answer : Result A E) → IfErr answer P → ((y : E) → P y → Q y) → IfErr answer Q
 if_err_as P Q (Ok x) p f = tt
 if_err_as P Q (Err y) p f = f y p
+
+-- CREATIONS
+
+-- no lease is a filling
+one_lease : (lease : Option lent.Reading) → count_by (λ p. p.1 == 0) (pairs_of lease) ≡ 0
+one_lease None = refl
+one_lease (Some lease) = let m = tally-cons (λ (p : ℕ × ℕ). p.1 == 0) (lease.slot, lease.creation + 1) [] in let z = ap once (no_zero lease.creation) in omega arith
+  where
+    no_zero : (n : ℕ) → (n + 1 == 0) ≡ false
+    no_zero n = grind (arith, nat_tests)
+
+pub leases_only : (cells : List Cell) → HasNoFilling (leases_of cells)
+leases_only [] = refl
+leases_only (c ∷ cs) = let a = tally-append (λ (p : ℕ × ℕ). p.1 == 0) (pairs_of c.lease) (leases_of cs) in let b = one_lease c.lease in let r = leases_only cs in omega arith
+
+pub has_no_filling : {D A C : Type 0} (w : World D A C) (n : ℕ) (old : Caller D A C) → IsReady w n old → HasNoFilling old.pass.me.0.holding
+has_no_filling w n old r = r.leases (λ p. p.1 == 0) ∙ leases_only old.handles.cells.items
+
+-- the slot that was reserved is out
+pub reserved : (filling : lent.Reserved) (own more : Pairs) → more ≡ filling_pair filling ∷ own → 0 < names filling.slot 0 more
+reserved filling own more is = subst (λ ps. 0 < names filling.slot 0 ps) (sym is) (first_named (filling_pair filling) own)
+
+-- what a creation is, a turn without rank leaves
+pub creates_on : {D A C : Type 0} (w : World D A C) (v u : View Entry _) (own : Pairs) (caller : ℕ) (call : Request) (records : model.Store → Result Attributes Status → Type 0) (bytes : List ℕ) → IsLater v u own →
+    CreatesKey w v caller call records bytes → CreatesKey w u caller call records bytes
+creates_on w v u own caller call records bytes later c = record {
+  keeps = c.keeps;
+  leaves = λ start is h on. c.leaves start is h (goes_on_before v u own h later on);
+  answers = λ start is h on. c.answers start is h (goes_on_before v u own h later on);
+}
+
+-- the two turns
+pub created_in : {D A C : Type 0} {v u x : View Entry (Opened D A C)} (filling : lent.Reserved) {call : Request} {mark : FaultMark} {rank : ℕ} {Decided : List Entry → Entry → Type 0} →
+    IsLater v u (filling_pair filling ∷ v.holding) → IsRanked u x call mark rank (without_pair (filling_pair filling) u.holding) Decided → IsCreated v x call mark rank Decided
+created_in {v = v} {u = u} {x = x} filling {call = call} {mark = mark} {rank = rank} later ranked = record {
+  before = ranked.before;
+  entry = ranked.after.entry;
+  called = then_called v u x 1 call mark rank (filling_pair filling ∷ v.holding) ranked.before ranked.after.entry later (called ranked.after.entered);
+  holding = λ f.
+      let a = ap (count_by f) ranked.after.entered.holding in let b = without f (filling_pair filling) u.holding (reserved filling v.holding u.holding later.holding) in
+      let c = ap (count_by f) later.holding in let m = tally-cons f (filling_pair filling) v.holding in omega arith;
+  decided = ranked.after.decided;
+}
+
+-- the caller after both
+module _ {D A C : Type 0} (w : World D A C) (old new : Caller D A C) (r : IsReady w 4 old) {request : Request} (call : Call) (asks : request ≡ OnStore call) {mark : FaultMark} {rank : ℕ} {Decided : List Entry → Entry → Type 0}
+    (c : IsCreated old.pass.me.0 new.pass.me.0 request mark rank Decided) where
+  pub drew_ready : (drawn : ℕ) → words_used drawn ≤ 256 → new.number ≡ old.number → new.spent ≡ old.spent → new.handles ≡ old.handles → new.spares ≡ old.spares → new.stream ≡ drawn_from old.stream drawn →
+      IsAt w new.pass → Legal w (entries_of new.pass.me.0.seen) →
+      KnowsBefore w (λ service. IsOwnPart r.operations new.stream.place (own_of (serve service old.number (OnStore call) mark).service old.number)) c.before c.entry → IsReady w 0 new
+  drew_ready drawn few number spent handles spares stream at legal own = kept_ready w old new r 2 request call asks mark rank c.before c.entry c.called drawn few (omega arith) (record {
+    number = number;
+    spent = spent;
+    handles = handles;
+    stream = stream;
+    holding = c.holding;
+    spares = same_spares r.clear spares;
+  }) at legal own
+
+  pub created_answered : (result : Result Output Status) → TellsFailure w result mark → KnowsBefore w (λ service. Gives result (serve service old.number (OnStore call) mark).reply) c.before c.entry →
+      (buffer : List ℕ) → IsAnswered w old.pass.me.0 new.pass.me.0 request rank result buffer buffer
+  created_answered result failure gives buffer =
+      kept_answered w old new r 2 request call asks mark rank c.before c.entry c.called result buffer buffer failure (λ start is tells told. let g = gives start is tells in (g.answers, g.unwritten buffer))
+
+  -- where no random word is drawn
+  pub created_ready : SameButPass old new → DrawsNone call → IsAt w new.pass → Legal w (entries_of new.pass.me.0.seen) → IsReady w 0 new
+  created_ready same none at legal =
+      drew_ready 0 (omega arith) same.number same.spent same.handles same.spares (same.stream ∙ draws_none old.stream) at legal (λ start is tells.
+      let service = replay start c.before in
+      let k = known w 4 old new r 2 request mark rank c.before c.entry c.called start is tells in
+      subst (λ n. IsOwnPart r.operations n (own_of (serve service old.number (OnStore call) mark).service old.number)) (sym (ap (λ (s : RandomStream). s.place) same.stream))
+      (undrawn_own service old.number call mark r.operations old.stream.place k.sound r.last k.own (none service.store old.number (next_random service old.number))))

@@ -1,10 +1,13 @@
 -- What parts of a call leave of a caller.
-use Rattle.std.specs.Prelude.{◌≡◌, ◌&&◌, ℕ, Bool, List, [], ◌∷◌, ◌++◌, Option, Some, None, if◌then◌else◌, vec_capacity}
+use Rattle.std.specs.Prelude.{◌≡◌, ◌<◌, ◌&&◌, ℕ, ◌+◌, Bool, List, [], ◌∷◌, ◌++◌, Option, Some, None, if◌then◌else◌, nat_lt, vec_capacity, vec_len}
 use Rattle.secret_bytes.specs.Buffer.{Buffer, IsClear}
+use Rattle.key_attributes.specs.declared.Attributes.{Attributes}
+use Rattle.key_slots.specs.Holdings.{names}
 use Rattle.slot_table.specs.Lent.{Reading}
 use Rattle.service_calls.specs.declared.store_calls.KeyedCall.{KeyedCall}
 use Rattle.single_part.specs.Elements.{takes_vector}
 use Rattle.locked_store.specs.Prelude.{IsLater, lease_pair, without_pair}
+use Rattle.store_model.specs.Creation.{stated_bytes}
 use Rattle.store_model.specs.Prelude.{FaultMark, Entry, Request}
 use Rattle.store_core.specs.declared.store.Opened.{Opened}
 use Rattle.turn_history.specs.declared.pass.View.{View}
@@ -16,6 +19,10 @@ use Rattle.callers.specs.declared.caller.Caller.{Caller}
 abbrev pub drawn_by : KeyedCall → (computed : Bool) → ℕ
 drawn_by asked computed = if computed && takes_vector asked then 16 else 0
 
+-- those drawn for a key that is made: for one that is too long there are none
+abbrev pub drawn_for : Attributes → ℕ
+drawn_for attributes = if nat_lt 1024 (stated_bytes attributes) then 0 else stated_bytes attributes
+
 module _ {D A C : Type 0} where
   -- all but the pass
   pub record SameButPass (old new : Caller D A C) : Type 0 where
@@ -24,6 +31,10 @@ module _ {D A C : Type 0} where
     pub stream : new.stream ≡ old.stream
     pub spares : new.spares ≡ old.spares
     pub handles : new.handles ≡ old.handles
+
+  -- a lease is out, and there is room for its spare
+  abbrev pub MayGoBack : Caller D A C → Reading → Type 0
+  MayGoBack c lease = (0 < names lease.slot (lease.creation + 1) c.pass.me.0.holding) × (vec_len c.spares < vec_capacity c.spares)
 
   -- a lease was given back in a turn without rank, and its spare is kept
   pub record IsGivenBack (lease : Reading) (old new : Caller D A C) : Type 0 where

@@ -2,16 +2,11 @@
 ghost use Rattle.std.specs.Prelude.{◌≡◌, ◌≤◌, ◌<◌, ◌+◌, ◌^◌, ℕ, true, false, cond, List, Some, None, Err, IfSome, IfNone, length};
 ghost use Rattle.std.specs.Result.{is_ok};
 ghost use Rattle.psa_status.specs.declared.Status.TheVariants.{PassWorn};
-ghost use Rattle.service_calls.specs.Asked.{changes, creates};
 ghost use Rattle.service_calls.specs.Meanings.{model_request};
 ghost use Rattle.service_calls.specs.declared.call.Call.TheVariants as calls;
 ghost use Rattle.service_calls.specs.declared.handle_calls.HandleCall.TheVariants as handle_calls;
 ghost use Rattle.store_model.specs.Prelude.{HandleOperation, is_inactive};
-ghost use Rattle.callers.specs.Budget.{is_counted, begins_operation};
-ghost use Rattle.callers.specs.Called.{IsAnswered};
-ghost use Rattle.callers.specs.Handles.{AreOperations, operation_at};
-ghost use Rattle.callers.specs.Ready.{IsReady};
-ghost use Rattle.callers.specs.Served.{HasCounted, IsOverBudget, IsServed, IsServedUnwritten};
+ghost use Rattle.callers.specs.Prelude.{AreOperations, HasCounted, IsAnswered, IsOverBudget, IsReady, IsServed, begins_operation, is_counted, operation_at};
 ghost use Rattle.locked_store.specs.Prelude.{world};
 
 use crate::caller::Caller;
@@ -102,9 +97,25 @@ impl<D: Disk, A: Devices, C: Admission> Caller<D, A, C> {
         ensures answered { IsServed (world shared.now) self.old self.new call.now result out.old out.new }
         ensures spent { self.new.spent ≡ self.old.spent + cond (begins_operation call.now) (cond (is_ok result.1) 1 0) 0 }
     {
+        let room = out.len();
         match *call {
             Call::OnStore(asked) => self.serve_store(rt, shared, gate, call, &asked, out),
-            Call::OnHandle(op, asked) => self.serve_handle(rt, shared, gate, call, op, &asked, out),
+            Call::OnHandle(op, HandleCall::Setup(setup)) => self.set_up(
+                rt, shared, gate, call, room, op, setup,
+            ),
+            Call::OnHandle(op, HandleCall::Step(step)) => self.step(
+                rt, shared, call, op, step, out,
+            ),
+            Call::OnHandle(op, HandleCall::InputKey { step, key }) => {
+                self.input_key(rt, shared, gate, call, room, op, step, key)
+            }
+            Call::OnHandle(op, HandleCall::OutputKey(attributes)) => {
+                self.output_key(rt, shared, gate, call, room, op, attributes)
+            }
+            Call::OnHandle(op, HandleCall::Abort) => {
+                let rank = self.abort(rt, shared, call, room, op);
+                (rank, Ok(Output::Done))
+            }
         }
     }
 
@@ -126,97 +137,22 @@ impl<D: Disk, A: Devices, C: Admission> Caller<D, A, C> {
     {
         let room = out.len();
         match *asked {
-            StoreCall::Create(creation) => self.create_key(rt, shared, gate, call, room, &creation),
-            StoreCall::Change(change) => self.change_key(rt, shared, gate, call, room, change),
-            StoreCall::Hash(hash) => self.hash(rt, shared, call, &hash, out),
-            StoreCall::Compute(keyed) => self.compute(rt, shared, gate, call, &keyed, out),
-        }
-    }
-
-    // Creates a key.
-    fn create_key<R: Wait, G: Gate>(
-        &mut self,
-        rt: &R,
-        shared: &SharedStore<D, A, C>,
-        gate: &G,
-        call: &Call<'_>,
-        room: usize,
-        asked: &Creation<'_>,
-    ) -> (u64, Result<Output, Status>)
-        requires ready { IsReady (world shared.now) 4 self.old }
-        requires call { call.now ≡ creates asked.now }
-        ensures ready { IsReady (world shared.now) 0 self.new }
-        ensures answered { IsServedUnwritten (world shared.now) self.old self.new call.now room result }
-        ensures spent { self.new.spent ≡ self.old.spent }
-    {
-        match *asked {
-            Creation::Import { attributes, bytes } => {
+            StoreCall::Create(Creation::Import { attributes, bytes }) => {
                 self.import(rt, shared, gate, call, room, attributes, bytes)
             }
-            Creation::Generate(attributes) => self.generate(
-                rt, shared, gate, call, room, attributes,
-            ),
-        }
-    }
-
-    // Does what is asked with a key as a whole.
-    fn change_key<R: Wait, G: Gate>(
-        &mut self,
-        rt: &R,
-        shared: &SharedStore<D, A, C>,
-        gate: &G,
-        call: &Call<'_>,
-        room: usize,
-        asked: KeyChange,
-    ) -> (u64, Result<Output, Status>)
-        requires ready { IsReady (world shared.now) 4 self.old }
-        requires call { call.now ≡ changes asked }
-        ensures ready { IsReady (world shared.now) 0 self.new }
-        ensures answered { IsServedUnwritten (world shared.now) self.old self.new call.now room result }
-        ensures spent { self.new.spent ≡ self.old.spent }
-    {
-        match asked {
-            KeyChange::Copy { source, attributes } => {
+            StoreCall::Create(Creation::Generate(attributes)) => {
+                self.generate(rt, shared, gate, call, room, attributes)
+            }
+            StoreCall::Change(KeyChange::Copy { source, attributes }) => {
                 self.copy(rt, shared, gate, call, room, source, attributes)
             }
-            KeyChange::Destroy(key) => self.destroy(rt, shared, call, room, key),
-            KeyChange::Purge(key) => self.purge(rt, shared, call, room, key),
-            KeyChange::GetAttributes(key) => self.attributes(rt, shared, call, room, key),
-        }
-    }
-
-    // Serves a call on a handle.
-    fn serve_handle<R: Wait, G: Gate>(
-        &mut self,
-        rt: &R,
-        shared: &SharedStore<D, A, C>,
-        gate: &G,
-        call: &Call<'_>,
-        op: Op,
-        asked: &HandleCall<'_>,
-        out: &mut [u8],
-    ) -> (u64, Result<Output, Status>)
-        requires ready { IsReady (world shared.now) 4 self.old }
-        requires budget { self.old.spent + cond (begins_operation call.now) 1 0 ≤ 2 ^ 48 }
-        requires call { call.now ≡ calls.OnHandle op asked.now }
-        ensures ready { IsReady (world shared.now) 0 self.new }
-        ensures answered { IsServed (world shared.now) self.old self.new call.now result out.old out.new }
-        ensures spent { self.new.spent ≡ self.old.spent + cond (begins_operation call.now) (cond (is_ok result.1) 1 0) 0 }
-    {
-        let room = out.len();
-        match *asked {
-            HandleCall::Setup(setup) => self.set_up(rt, shared, gate, call, room, op, setup),
-            HandleCall::Step(step) => self.step(rt, shared, call, op, step, out),
-            HandleCall::InputKey { step, key } => {
-                self.input_key(rt, shared, gate, call, room, op, step, key)
+            StoreCall::Change(KeyChange::Destroy(key)) => self.destroy(rt, shared, call, room, key),
+            StoreCall::Change(KeyChange::Purge(key)) => self.purge(rt, shared, call, room, key),
+            StoreCall::Change(KeyChange::GetAttributes(key)) => {
+                self.attributes(rt, shared, call, room, key)
             }
-            HandleCall::OutputKey(attributes) => {
-                self.output_key(rt, shared, gate, call, room, op, attributes)
-            }
-            HandleCall::Abort => {
-                let rank = self.abort(rt, shared, call, room, op);
-                (rank, Ok(Output::Done))
-            }
+            StoreCall::Hash(hash) => self.hash(rt, shared, call, &hash, out),
+            StoreCall::Compute(keyed) => self.compute(rt, shared, gate, call, &keyed, out),
         }
     }
 }

@@ -1,11 +1,10 @@
-// A caller of the store.
+// A caller of the store. Callers that one thread runs tell each other what they have seen.
 ghost use Rattle.std.specs.Prelude.{◌≡◌, ◌≤◌, ◌<◌, [], All, length};
 ghost use Rattle.secret_bytes.specs.Buffer.{IsClear};
-ghost use Rattle.turn_history.specs.Prelude.{new_pass};
+ghost use Rattle.turn_history.specs.Prelude.{new_pass, StartsWith, entries_of, IsIdle, joined, watcher};
 ghost use Rattle.store_model.specs.Prelude.{Service, IsSoundStore};
 ghost use Rattle.locked_store.specs.Prelude.{IsStartOf, world};
-ghost use Rattle.callers.specs.Handles.{AreIdle};
-ghost use Rattle.callers.specs.Ready.{IsReady};
+ghost use Rattle.callers.specs.Prelude.{AreIdle, IsReady, Legal, SameButPass};
 
 use crate::handles::Handles;
 use admission::Admission;
@@ -84,5 +83,32 @@ impl<D: Disk, A: Devices, C: Admission> Caller<D, A, C> {
         ensures { result.now ≡ self.now.pass }
     {
         &self.pass
+    }
+
+    /// A watcher that has seen the same, for another caller of the thread to learn from.
+    #[tactic(auto, unfolding(locked_store::specs::Shared::lock_of, locked_store::specs::Shared::opened_of))]
+    pub fn watch(&mut self, shared: &SharedStore<D, A, C>) -> Pass<Held<D, A, C>>
+        requires own { self.old.pass.table_id ≡ (world shared.now).lock }
+        ensures same { self.new ≡ self.old }
+        ensures idle { IsIdle (world shared.now).lock result }
+        ensures watcher { result.me ≡ (watcher self.old.pass.me.0, []) }
+    {
+        shared.lock.split(&mut self.pass)
+    }
+
+    /// Takes a watcher in. The caller has then seen the longer of both histories.
+    #[tactic(auto, unfolding(locked_store::specs::Shared::lock_of, locked_store::specs::Shared::opened_of))]
+    pub fn learn(&mut self, shared: &SharedStore<D, A, C>, watcher: Pass<Held<D, A, C>>)
+        requires ready { IsReady (world shared.now) 0 self.old }
+        requires idle { IsIdle (world shared.now).lock watcher }
+        requires weightless { watcher.me.0.weight ≡ 0 }
+        requires legal { Legal (world shared.now) (entries_of watcher.me.0.seen) }
+        ensures ready { IsReady (world shared.now) 0 self.new }
+        ensures pass { self.new.pass.me.0 ≡ joined self.old.pass.me.0 watcher.me.0 }
+        ensures own { StartsWith self.new.pass.me.0.seen self.old.pass.me.0.seen }
+        ensures learned { StartsWith self.new.pass.me.0.seen watcher.me.0.seen }
+        ensures same { SameButPass self.old self.new }
+    {
+        shared.lock.join(&mut self.pass, watcher);
     }
 }

@@ -2,10 +2,7 @@
 ghost use Rattle.std.specs.Prelude.{◌≡◌, ◌-◌, All, None};
 ghost use Rattle.turn_history.specs.Prelude.{entries_of};
 ghost use Rattle.locked_store.specs.Prelude.{IsAt, world};
-ghost use Rattle.callers.specs.Called.{Legal};
-ghost use Rattle.callers.specs.Handles.{AreIdle};
-ghost use Rattle.callers.specs.Ready.{IsReady};
-ghost use Rattle.callers.specs.Retired.{IsRetired, IsRetiring, MakesNoCall};
+ghost use Rattle.callers.specs.Prelude.{AreIdle, IsReady, IsRetired, IsRetiring, Legal, MakesNoCall};
 
 use crate::caller::Caller;
 use crate::handles::Handles;

@@ -1,5 +1,5 @@
 // A key of random bytes.
-ghost use Rattle.std.specs.Prelude.{◌≡◌, ◌≤◌, ◌<◌, ℕ, List, Some, None, true, false, length, replicate};
+ghost use Rattle.std.specs.Prelude.{◌≡◌, ◌≤◌, ℕ, List, Some, None, true, false, length, replicate};
 ghost use Rattle.psa_status.specs.Rows.{first_row};
 ghost use Rattle.psa_status.specs.declared.Status.TheVariants.{InvalidArgument};
 ghost use Rattle.random_streams.specs.RandomWords.{drawn_from, next_bytes};
@@ -7,8 +7,7 @@ ghost use Rattle.service_calls.specs.Asked.{creates};
 ghost use Rattle.service_calls.specs.declared.store_calls.Creation.TheVariants.{Generate};
 ghost use Rattle.store_model.specs.Creation.{stated_bytes};
 ghost use Rattle.store_model.specs.Prelude.{stated_bits_rows};
-ghost use Rattle.callers.specs.Ready.{IsReady};
-ghost use Rattle.callers.specs.Served.{IsServedUnwritten};
+ghost use Rattle.callers.specs.Prelude.{IsReady, IsServedUnwritten, drawn_for};
 ghost use Rattle.locked_store.specs.Prelude.{world};
 
 use crate::caller::Caller;
@@ -64,11 +63,11 @@ impl<D: Disk, A: Devices, C: Admission> Caller<D, A, C> {
             return (rank, Err(Status::InvalidArgument));
         }
         let count = usize::from(attributes.bits / 8);
+        let place = self.stream.place();
         if count > LONGEST_KEY {
             let bytes = &[0; MOST_STATED][..count];
-            return self.refuse_long_key(rt, shared, gate, call, room, attributes, bytes);
+            return self.create_random(rt, shared, gate, call, room, attributes, bytes, place);
         }
-        let place = self.stream.place();
         let mut buffer = [0; LONGEST_KEY];
         self.stream.fill(&mut buffer[..count]);
         let bytes = &buffer[..count];
@@ -78,7 +77,7 @@ impl<D: Disk, A: Devices, C: Admission> Caller<D, A, C> {
     }
 
     // Creates a key of these bytes, which were drawn from a place of the stream on, and gives the words back where there is
-    // none.
+    // none. Of more bytes than a key has none is drawn: any will do for the refusal.
     fn create_random<R: Wait, G: Gate>(
         &mut self,
         rt: &R,
@@ -93,9 +92,9 @@ impl<D: Disk, A: Devices, C: Admission> Caller<D, A, C> {
         requires ready { IsReady (world shared.now) 4 (record self.old { stream = record self.old.stream { place = place } }) }
         requires call { call.now ≡ creates (Generate attributes) }
         requires whole { first_row (stated_bits_rows attributes) ≡ None }
-        requires short { stated_bytes attributes ≤ 1024 }
-        requires bytes { bytes.now ≡ next_bytes (record self.old.stream { place = place }) (stated_bytes attributes) }
-        requires drawn { self.old.stream ≡ drawn_from (record self.old.stream { place = place }) (stated_bytes attributes) }
+        requires count { length bytes.now ≡ stated_bytes attributes }
+        requires bytes { stated_bytes attributes ≤ 1024 → bytes.now ≡ next_bytes (record self.old.stream { place = place }) (stated_bytes attributes) }
+        requires drawn { self.old.stream ≡ drawn_from (record self.old.stream { place = place }) (drawn_for attributes) }
         ensures ready { IsReady (world shared.now) 0 self.new }
         ensures answered { IsServedUnwritten (world shared.now) self.old self.new call.now room result }
         ensures spent { self.new.spent ≡ self.old.spent }
@@ -108,34 +107,6 @@ impl<D: Disk, A: Devices, C: Admission> Caller<D, A, C> {
                 self.stream.go_back(place);
                 (rank, Err(why.status()))
             }
-        }
-    }
-
-    // Answers the first refusal of a key that is too long, whatever its bytes are.
-    fn refuse_long_key<R: Wait, G: Gate>(
-        &mut self,
-        rt: &R,
-        shared: &SharedStore<D, A, C>,
-        gate: &G,
-        call: &Call<'_>,
-        room: usize,
-        attributes: Attributes,
-        bytes: &[u8],
-    ) -> (u64, Result<Output, Status>)
-        requires ready { IsReady (world shared.now) 4 self.old }
-        requires call { call.now ≡ creates (Generate attributes) }
-        requires whole { first_row (stated_bits_rows attributes) ≡ None }
-        requires long { 1024 < stated_bytes attributes }
-        requires count { length bytes.now ≡ stated_bytes attributes }
-        ensures ready { IsReady (world shared.now) 0 self.new }
-        ensures answered { IsServedUnwritten (world shared.now) self.old self.new call.now room result }
-        ensures spent { self.new.spent ≡ self.old.spent }
-        ensures handles { self.new.handles ≡ self.old.handles }
-    {
-        let (rank, made) = self.create(rt, shared, gate, call, room, &attributes, bytes);
-        match made {
-            Ok(id) => (rank, Ok(Output::Identifier(id))),
-            Err(why) => (rank, Err(why.status())),
         }
     }
 }

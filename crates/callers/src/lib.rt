@@ -4,20 +4,14 @@
 mod answering;
 mod caller;
 mod closing;
-mod creations;
-mod derived;
+mod derivation_keys;
+mod derivations;
 mod gates;
 mod generation;
 mod handles;
-mod hashes;
-mod inputs;
-mod keyed;
 mod keys;
-mod meeting;
-mod outputs;
-mod secrets;
-mod setups;
-mod steps;
+mod one_part;
+mod operations;
 mod turns;
 
 pub use caller::Caller;

@@ -2,13 +2,10 @@
 ghost use Rattle.std.specs.Prelude.{◌≡◌, ◌≤◌, ◌<◌, ◌+◌, ◌∷◌, ◌++◌, [], All, IfSome, get_or, length, vec_capacity, vec_len};
 ghost use Rattle.secret_bytes.specs.Buffer.{IsClear};
 ghost use Rattle.turn_history.specs.Prelude.{entries_of};
-ghost use Rattle.key_slots.specs.Holdings.{names};
 ghost use Rattle.service_calls.specs.Meanings.{model_request};
 ghost use Rattle.store_model.specs.Prelude.{Plain, Inactive, is_alive, key_of_operation, operation_of};
 ghost use Rattle.locked_store.specs.Prelude.{IsAt, IsLater, IsRanked, LeavesAllKeys, lease_pair, without_pair, world};
-ghost use Rattle.callers.specs.Called.{KnowsBefore, Legal};
-ghost use Rattle.callers.specs.Ready.{IsReady};
-ghost use Rattle.callers.specs.Parts.{IsBack, SameButPass};
+ghost use Rattle.callers.specs.Prelude.{IsBack, IsReady, KnowsBefore, Legal, MayGoBack, SameButPass};
 
 use crate::caller::Caller;
 use admission::Admission;
@@ -58,8 +55,7 @@ impl<D: Disk, A: Devices, C: Admission> Caller<D, A, C> {
         requires at { IsAt (world shared.now) self.old.pass }
         requires legal { Legal (world shared.now) (entries_of self.old.pass.me.0.seen) }
         requires left { 0 < self.old.pass.me.0.turns_left }
-        requires out { IfSome lease (λ l. 0 < names l.slot (l.creation + 1) self.old.pass.me.0.holding) }
-        requires room { IfSome lease (λ l. vec_len self.old.spares < vec_capacity self.old.spares) }
+        requires lent { IfSome lease (MayGoBack self.old) }
         ensures at { IsAt (world shared.now) self.new.pass }
         ensures legal { Legal (world shared.now) (entries_of self.new.pass.me.0.seen) }
         ensures back { IsBack lease self.old self.new }

@@ -1,38 +1,19 @@
 use Rattle.std.proofs.Common.{ap, refl}
-use Rattle.callers.proofs.Common.{Inactive, Plain, model_request, world}
-use Rattle.callers.proofs.Aborting.{aborted, aborted_answered}
-use Rattle.callers.proofs.Handling.{has_room, one_turn, out, same_out}
+use Rattle.callers.proofs.Common.{done, ends, model_request, world}
+use Rattle.callers.proofs.Handling.{aborted, aborted_answered, goes_back, same_out, spent_back}
+use Rattle.callers.proofs.Journeys.{called}
 use Rattle.callers.proofs.caller.Caller.abort.Goals as goal
 
-pub give_back-requires-clause-out : goal.give_back-requires-clause-out
-give_back-requires-clause-out g c κs within =
-    let w = world c.args.shared.now in
-    let old = c.args.self.now in let request = model_request c.args.call.now c.args.room in let counted = c.count-rank.ensures.counted in let before = counted.before in let e = counted.after.entry in let i = counted.after.entered in
-    let settled = record c.args.self.now { pass = c.count-rank.new.pass; handles = c.abort-lease.new.self } in let lease = c.abort-lease.result in let last = c.abort-lease.ensures.last in
-    let r = c.requires.ready in
-    out w 0 old settled settled r request Plain c.count-rank.result before e 1 (one_turn i) (same_out i) c.args.op Inactive lease (c.abort-lease.ensures.changed r.operations r.stand)
+pub give_back-requires-clause-lent : goal.give_back-requires-clause-lent
+give_back-requires-clause-lent g c κs within =
+    let r = c.requires.ready in let i = c.count-rank.ensures.counted.after.entered in let settled = record c.args.self.now { pass = c.count-rank.new.pass; handles = c.abort-lease.new.self } in
+    goes_back (world c.args.shared.now) r settled settled (called i) (same_out i) refl (ends done) (c.abort-lease.ensures.changed r.operations r.stand)
 
-pub give_back-requires-clause-room : goal.give_back-requires-clause-room
-give_back-requires-clause-room g c κs within =
-    let w = world c.args.shared.now in
-    let old = c.args.self.now in let request = model_request c.args.call.now c.args.room in let counted = c.count-rank.ensures.counted in let before = counted.before in let e = counted.after.entry in let i = counted.after.entered in
-    let settled = record c.args.self.now { pass = c.count-rank.new.pass; handles = c.abort-lease.new.self } in let lease = c.abort-lease.result in let last = c.abort-lease.ensures.last in
-    let r = c.requires.ready in
-    has_room w 0 old settled settled r request Plain c.count-rank.result before e 1 (one_turn i) (same_out i) c.args.op Inactive lease (c.abort-lease.ensures.changed r.operations r.stand) c.args.self.now.spares refl
-
-pub returns-clause-ready : goal.returns-clause-ready
-returns-clause-ready g c =
-    let w = world c.args.shared.now in
-    let old = c.args.self.now in let request = model_request c.args.call.now c.args.room in let counted = c.count-rank.ensures.counted in let before = counted.before in let e = counted.after.entry in let i = counted.after.entered in
-    let settled = record c.args.self.now { pass = c.count-rank.new.pass; handles = c.abort-lease.new.self } in let lease = c.abort-lease.result in let last = c.abort-lease.ensures.last in
-    aborted w old settled c.give_back.new.self c.requires.ready request c.count-rank.result before e c.args.op lease c.requires.counted i c.abort-lease.ensures.changed c.give_back.ensures.back
-    c.abort-lease.ensures.first last (ap (λ x. model_request x c.args.room) c.requires.call) c.give_back.ensures.at c.give_back.ensures.legal refl refl refl refl
-
-pub returns-clause-answered : goal.returns-clause-answered
-returns-clause-answered g c = λ buffer.
-    let w = world c.args.shared.now in
-    let old = c.args.self.now in let request = model_request c.args.call.now c.args.room in let counted = c.count-rank.ensures.counted in let before = counted.before in let e = counted.after.entry in let i = counted.after.entered in
-    let settled = record c.args.self.now { pass = c.count-rank.new.pass; handles = c.abort-lease.new.self } in let lease = c.abort-lease.result in let last = c.abort-lease.ensures.last in
-    let r = c.requires.ready in
-    aborted_answered w 0 old settled c.give_back.new.self r request c.count-rank.result before e i c.args.op lease (c.abort-lease.ensures.changed r.operations r.stand) c.give_back.ensures.back
-    c.abort-lease.ensures.first last (ap (λ x. model_request x c.args.room) c.requires.call) buffer
+pub returns : goal.returns
+returns g c =
+    let w = world c.args.shared.now in let r = c.requires.ready in let i = c.count-rank.ensures.counted.after.entered in let settled = record c.args.self.now { pass = c.count-rank.new.pass; handles = c.abort-lease.new.self } in
+    let new = c.give_back.new.self in let ended = c.abort-lease.ensures in let back = c.give_back.ensures.back in let asks = ap (λ x. model_request x c.args.room) c.requires.call in record {
+      ready = aborted w r settled new c.requires.counted i refl ended.changed back ended.first ended.last asks c.give_back.ensures.at c.give_back.ensures.legal refl refl refl;
+      answered = aborted_answered w r settled new i refl (ended.changed r.operations r.stand) back ended.first ended.last asks;
+      spent = spent_back settled new c.abort-lease.result back;
+    }

@@ -3,24 +3,22 @@ use Rattle.callers.proofs.Common.{IsChanged, operation_at, set_up_without_key}
 use Rattle.callers.proofs.Changing.{same_lease}
 use Rattle.callers.proofs.handles.Handles.begin.Goals as goal
 
-pub begin-requires-clause-free : goal.begin-requires-clause-free
-begin-requires-clause-free c = λ operation is. c.requires.free c.index_mut.result.now operation (c.index_mut.ensures.value ∙ ap (λ i. get_or c.args.self.now.cells.items i c.index_mut.result.now) c.place.ensures.place) is
+pub begin-requires : goal.begin-requires
+begin-requires c =
+    let at = c.index_mut.ensures.value ∙ ap (λ i. get_or c.args.self.now.cells.items i c.index_mut.result.now) c.place.ensures.place in record {
+      free = λ operation is. c.requires.free c.index_mut.result.now operation at is;
+      none = c.requires.none c.index_mut.result.now at;
+    }
 
-pub begin-requires-clause-none : goal.begin-requires-clause-none
-begin-requires-clause-none c = c.requires.none c.index_mut.result.now (c.index_mut.ensures.value ∙ ap (λ i. get_or c.args.self.now.cells.items i c.index_mut.result.now) c.place.ensures.place)
-
-pub returns-clause-changed : goal.returns-clause-changed
-returns-clause-changed c = λ operations are.
-    let at = c.index_mut.ensures.value ∙ ap (λ i. get_or c.args.self.now.cells.items i c.index_mut.result.now) c.place.ensures.place in
-    let inside : c.args.op - 1 < 4 = omega (arith, c.place.ensures.last) in
-    let after = set_up_without_key (operation_at operations c.args.op) c.args.setup in
-    let none = c.requires.none c.index_mut.result.now at in
-    subst (λ i. IsChanged c.args.self.now.cells.items (set c.args.self.now.cells.items i c.begin.new.self) operations c.args.op after.operation None) (sym c.place.ensures.place)
-    (same_lease c.args.self.now.cells.items operations c.args.op c.index_mut.result.now c.begin.new.self after.operation None are inside at c.begin.ensures.lease refl
-    (c.begin.ensures.state (operation_at operations c.args.op) (are.each (c.args.op - 1) c.index_mut.result.now inside at)) (λ over. c.begin.ensures.lease ∙ none))
-
-pub returns-clause-reply : goal.returns-clause-reply
-returns-clause-reply c = λ operations are.
-    let at = c.index_mut.ensures.value ∙ ap (λ i. get_or c.args.self.now.cells.items i c.index_mut.result.now) c.place.ensures.place in
-    let inside : c.args.op - 1 < 4 = omega (arith, c.place.ensures.last) in
-    c.begin.ensures.reply (operation_at operations c.args.op) (are.each (c.args.op - 1) c.index_mut.result.now inside at)
+pub returns : goal.returns
+returns c =
+    let cells = c.args.self.now.cells.items in let op = c.args.op in let cell = c.index_mut.result.now in let next = c.begin.new.self in
+    let at = c.index_mut.ensures.value ∙ ap (λ i. get_or cells i cell) c.place.ensures.place in let inside : op - 1 < 4 = omega (arith, c.place.ensures.last) in record {
+      changed = λ operations are.
+          let after = set_up_without_key (operation_at operations op) c.args.setup in
+          subst (λ i. IsChanged cells (set cells i next) operations op after.operation None) (sym c.place.ensures.place)
+          (same_lease cells operations op cell next after.operation None are inside at c.begin.ensures.lease refl (c.begin.ensures.state (operation_at operations op) (are.each (op - 1) cell inside at)) (λ over. c.begin.ensures.lease ∙ c.requires.none cell at));
+      reply = λ operations are. c.begin.ensures.reply (operation_at operations op) (are.each (op - 1) cell inside at);
+      first = c.place.ensures.first;
+      last = c.place.ensures.last;
+    }

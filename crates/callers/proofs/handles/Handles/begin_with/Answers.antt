@@ -11,8 +11,7 @@ begin_with-requires-clause-none c = c.requires.none c.index_mut.result.now (c.in
 
 pub returns-clause-kept : goal.returns-clause-kept
 returns-clause-kept c = λ operations key are number.
-    let at = c.index_mut.ensures.value ∙ ap (λ i. get_or c.args.self.now.cells.items i c.index_mut.result.now) c.place.ensures.place in
-    let inside : c.args.op - 1 < 4 = omega (arith, c.place.ensures.last) in
-    subst (λ i. HoldsLease c.args.self.now.cells.items (set c.args.self.now.cells.items i c.begin_with.new.self) operations c.args.op (begun_with c.args.purpose c.args.alg key (bytes_of c.args.lease.buffer)) c.args.lease) (sym c.place.ensures.place)
-    (kept c.args.self.now.cells.items operations c.args.op c.index_mut.result.now c.begin_with.new.self (begun_with c.args.purpose c.args.alg key (bytes_of c.args.lease.buffer)) c.args.lease are inside at (c.requires.none c.index_mut.result.now at) c.begin_with.ensures.lease
-    (c.begin_with.ensures.state (operation_at operations c.args.op) key (are.each (c.args.op - 1) c.index_mut.result.now inside at) number) refl)
+    let cells = c.args.self.now.cells.items in let op = c.args.op in let cell = c.index_mut.result.now in let next = c.begin_with.new.self in let begun = begun_with c.args.purpose c.args.alg key (bytes_of c.args.lease.buffer) in
+    let at = c.index_mut.ensures.value ∙ ap (λ i. get_or cells i cell) c.place.ensures.place in let inside : op - 1 < 4 = omega (arith, c.place.ensures.last) in
+    subst (λ i. HoldsLease cells (set cells i next) operations op begun c.args.lease) (sym c.place.ensures.place)
+    (kept cells operations op cell next begun c.args.lease are inside at (c.requires.none cell at) c.begin_with.ensures.lease (c.begin_with.ensures.state (operation_at operations op) key (are.each (op - 1) cell inside at) number) refl)

@@ -1,5 +1,8 @@
-// Calls in one part with a key.
-ghost use Rattle.std.specs.Prelude.{◌≡◌, ◌&&◌, ◌≤◌, ◌<◌, ◌+◌, ◌^◌, ℕ, true, false, All, Result, length, vec_capacity, vec_len};
+// Calls in one part.
+ghost use Rattle.std.specs.Prelude.{◌≡◌, length, ◌&&◌, ◌≤◌, ◌<◌, ◌+◌, ◌^◌, ℕ, true, false, All, Result, vec_capacity, vec_len};
+ghost use Rattle.service_calls.specs.Asked.{hashes};
+ghost use Rattle.callers.specs.Prelude.{IsGivenBack, IsReady, IsReplied, IsServed, Legal, SameButPass, drawn_by};
+ghost use Rattle.locked_store.specs.Prelude.{world, IsAt};
 ghost use Rattle.std.specs.Result.{is_ok};
 ghost use Rattle.random_streams.specs.RandomWords.{drawn_from, next_bytes};
 ghost use Rattle.secret_bytes.specs.Buffer.{bytes_of};
@@ -13,11 +16,6 @@ ghost use Rattle.secure_element_calls.specs.Calls.{model_call};
 ghost use Rattle.secure_element_calls.specs.Replies.{HasDrawn};
 ghost use Rattle.single_part.specs.Elements.{IsElementCall, has_vector, is_of_element, takes_vector};
 ghost use Rattle.single_part.specs.Keyed.{computed_by, wanted_by};
-ghost use Rattle.locked_store.specs.Prelude.{IsAt, world};
-ghost use Rattle.callers.specs.Called.{IsReplied, Legal};
-ghost use Rattle.callers.specs.Parts.{IsGivenBack, drawn_by};
-ghost use Rattle.callers.specs.Ready.{IsReady};
-ghost use Rattle.callers.specs.Served.{IsServed};
 
 use crate::caller::Caller;
 use crate::gates::{Gate, GatePoint};
@@ -28,8 +26,10 @@ use locked_store::{Looked, SharedStore};
 use psa_status::Status;
 use random_streams::Stream;
 use secure_element_calls::{ElementCall, NotComputed};
-use service_calls::{Call, Keyed, KeyedCall, Output};
-use single_part::{compute, computed_output, element_call, needs_vector, takes_vector, wanted};
+use service_calls::{Call, HashCall, Keyed, KeyedCall, Output};
+use single_part::{
+    compute, compute_hash, computed_output, element_call, needs_vector, takes_vector, wanted,
+};
 use slot_table::Lease;
 use std::sync::Wait;
 
@@ -59,6 +59,27 @@ fn draw_vector(call: &KeyedCall<'_>, computed: &Result<usize, NotComputed>, stre
 }
 
 impl<D: Disk, A: Devices, C: Admission> Caller<D, A, C> {
+    /// Computes the hash of a message, or compares it, and answers its rank beside what it gives. Bytes are written to the
+    /// front of the buffer.
+    pub fn hash<R: Wait>(
+        &mut self,
+        rt: &R,
+        shared: &SharedStore<D, A, C>,
+        call: &Call<'_>,
+        asked: &HashCall<'_>,
+        out: &mut [u8],
+    ) -> (u64, Result<Output, Status>)
+        requires ready { IsReady (world shared.now) 4 self.old }
+        requires call { call.now ≡ hashes asked.now }
+        ensures ready { IsReady (world shared.now) 0 self.new }
+        ensures answered { IsServed (world shared.now) self.old self.new call.now result out.old out.new }
+        ensures same { SameButPass self.old self.new }
+    {
+        let rank = shared.count(rt, &mut self.pass, call, out.len());
+        let result = compute_hash(asked, out);
+        (rank, result)
+    }
+
     /// Computes with the bytes of a key, or has the secure element compute, where it holds the key and computes such calls.
     /// Answers the rank beside what it gives. Bytes are written to the front of the buffer.
     pub fn compute<R: Wait, G: Gate>(
