@@ -1,6 +1,6 @@
 -- More text only adds to the output that is due.
-use Rattle.std.proofs.Common.{Bool, List, [], ap, ap₂, arith, bit_xor, cond, drop, false, length, refl, suc, sym, take, true, zero, ℕ, ◌*◌, ◌++◌, ◌+◌, ◌-◌, ◌∙◌, ◌∷◌, ◌≡◌, ◌≤◌}
-use Rattle.std.proofs.lemmas.List.{length-append, take_all, take-append-drop, take-append-le}
+use Rattle.std.proofs.Common.{Bool, List, [], ap, append_assoc, ap₂, arith, bit_xor, cond, false, length, refl, suc, sym, take, true, zero, ℕ, ◌*◌, ◌++◌, ◌+◌, ◌-◌, ◌∙◌, ◌∷◌, ◌≡◌, ◌≤◌}
+use Rattle.std.proofs.lemmas.List.{append-nil, length-append}
 use Rattle.crypto_specs.specs.Prelude.{aes_encrypt, xor_bytes, block_count, number_block, ccm_counter_block, ccm_stream, ccm_text, increased, initial_counter_block, gcm_stream, gcm_text}
 use Rattle.crypto_specs.proofs.Blocks.{length-aes_encrypt}
 use Rattle.crypto_specs.proofs.XorBytes.{length-xor_bytes}
@@ -19,14 +19,12 @@ module _ (stream block : ℕ → List ℕ) (none : stream 0 ≡ []) (more : (n :
   length-stream zero = ap length none
   length-stream (suc n) = omega (arith, ap length (more n), length-append (stream n) (block n), length-stream n, long n)
 
-  stream_begins : (n k : ℕ) → take (16 * n) (stream (n + k)) ≡ stream n
-  stream_begins n zero =
-      let e : n + zero ≡ n = omega arith in
-      ap (λ (i : ℕ). take (16 * n) (stream i)) e ∙ take_all (16 * n) (stream n) (omega (arith, length-stream n))
-  stream_begins n (suc k) =
+  stream_add : (n k : ℕ) → (rest : List ℕ) × (stream (n + k) ≡ stream n ++ rest)
+  stream_add n zero = let e : n + zero ≡ n = omega arith in ([], ap stream e ∙ sym (append-nil (stream n)))
+  stream_add n (suc k) =
       let e : n + suc k ≡ suc (n + k) = omega arith in
-      ap (λ (i : ℕ). take (16 * n) (stream i)) e ∙ ap (take (16 * n)) (more (n + k))
-      ∙ take-append-le (16 * n) (stream (n + k)) (block (n + k)) (omega (arith, length-stream (n + k))) ∙ stream_begins n k
+      let less : (rest : List ℕ) × (stream (n + k) ≡ stream n ++ rest) = stream_add n k in
+      (less.0 ++ block (n + k), ap stream e ∙ more (n + k) ∙ ap (λ (l : List ℕ). l ++ block (n + k)) less.1 ∙ append_assoc (stream n) less.0 (block (n + k)))
 
   text_grows : (text piece : List ℕ)
       → take (length (xor_bytes text (stream (block_count (length text))))) (xor_bytes (text ++ piece) (stream (block_count (length (text ++ piece))))) ≡ xor_bytes text (stream (block_count (length text)))
@@ -34,13 +32,11 @@ module _ (stream block : ℕ → List ℕ) (none : stream 0 ≡ []) (more : (n :
       let n : ℕ = block_count (length text) in
       let m : ℕ = block_count (length (text ++ piece)) in
       let mask : List ℕ = stream n in
-      let rest : List ℕ = drop (16 * n) (stream m) in
+      let further : (rest : List ℕ) × (stream (n + (m - n)) ≡ mask ++ rest) = stream_add n (m - n) in
       let e : m ≡ n + (m - n) = omega (arith, length-append text piece) in
-      let front : take (16 * n) (stream m) ≡ mask = ap (λ (i : ℕ). take (16 * n) (stream i)) e ∙ stream_begins n (m - n) in
-      let split : stream m ≡ mask ++ rest = sym (take-append-drop (16 * n) (stream m)) ∙ ap (λ (l : List ℕ). l ++ rest) front in
       let enough : length text ≤ length mask = omega (arith, length-stream n) in
       let same : length (xor_bytes text mask) ≡ length text = omega (arith, length-xor_bytes text mask) in
-      ap₂ (λ (k : ℕ) (l : List ℕ). take k (xor_bytes (text ++ piece) l)) same split ∙ xor_begins text piece mask rest enough
+      ap₂ (λ (k : ℕ) (l : List ℕ). take k (xor_bytes (text ++ piece) l)) same (ap stream e ∙ further.1) ∙ xor_begins text piece mask further.0 enough
 
 module _ (key nonce text piece : List ℕ) where
   abbrev e : List ℕ → List ℕ

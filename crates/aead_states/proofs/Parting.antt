@@ -8,16 +8,7 @@ use Rattle.aead_streams.proofs.GcmTexts.{length-gcm_text}
 use Rattle.aead_streams.proofs.CcmPayloads.{length-ccm_text}
 use Rattle.store_model.specs.Prelude.{aead_tag, aead_text, is_ccm, tag_bytes}
 use Rattle.aead_states.specs.declared.parts.Parts.{Parts}
-use Rattle.aead_states.specs.Directions.{cipher_of, plain_of}
-use Rattle.aead_states.specs.Runs.{HoldsData, HoldsPayload}
-
-by_true : (b : Bool) (P Q : Type 0) → b ≡ true → P → MatchBool b P Q
-by_true true P Q e h = h
-by_true false P Q e h = cc
-
-by_false : (b : Bool) (P Q : Type 0) → b ≡ false → Q → MatchBool b P Q
-by_false false P Q e h = h
-by_false true P Q e h = cc
+use Rattle.aead_states.specs.Runs.{cipher_of, plain_of, HoldsData, HoldsPayload}
 
 module _ (r : Parts) (alg : ℕ) (key nonce : List ℕ) (a p : ℕ) (ad : List ℕ) where
   pub ccm_data : is_ccm alg ≡ true → HoldsData r alg key nonce a p ad → HoldsCcmData r.ccm key (tag_bytes alg) nonce a p ad
@@ -27,7 +18,7 @@ module _ (r : Parts) (alg : ℕ) (key nonce : List ℕ) (a p : ℕ) (ad : List �
   gcm_data e h = MatchBool-at_false (HoldsCcmData r.ccm key (tag_bytes alg) nonce a p ad) (HoldsGcmData r.gcm key nonce ad) e h.part
 
   pub data_of_ccm : is_ccm alg ≡ true → HoldsCcmData r.ccm key (tag_bytes alg) nonce a p ad → HoldsData r alg key nonce a p ad
-  data_of_ccm e h = record { part = by_true (is_ccm alg) (HoldsCcmData r.ccm key (tag_bytes alg) nonce a p ad) (HoldsGcmData r.gcm key nonce ad) e h }
+  data_of_ccm e h = record { part = subst (λ b. MatchBool b (HoldsCcmData r.ccm key (tag_bytes alg) nonce a p ad) (HoldsGcmData r.gcm key nonce ad)) (sym e) h }
 
 module _ (r : Parts) (encrypts : Bool) (alg : ℕ) (key nonce : List ℕ) (p : ℕ) (ad text : List ℕ) where
   abbrev ByCcm : List ℕ → Type 0
@@ -49,10 +40,10 @@ module _ (r : Parts) (encrypts : Bool) (alg : ℕ) (key nonce : List ℕ) (p : �
   text_by_gcm other e q h = subst ByGcm q (MatchBool-at_false (ByCcm plain) (ByGcm cipher) e h.part)
 
   pub ccm_by_text : (other : List ℕ) → is_ccm alg ≡ true → plain ≡ other → ByCcm other → HoldsPayload r encrypts alg key nonce p ad text
-  ccm_by_text other e q h = record { part = by_true (is_ccm alg) (ByCcm plain) (ByGcm cipher) e (subst ByCcm (sym q) h) }
+  ccm_by_text other e q h = record { part = subst (λ b. MatchBool b (ByCcm plain) (ByGcm cipher)) (sym e) (subst ByCcm (sym q) h) }
 
   pub gcm_by_text : (other : List ℕ) → is_ccm alg ≡ false → cipher ≡ other → ByGcm other → HoldsPayload r encrypts alg key nonce p ad text
-  gcm_by_text other e q h = record { part = by_false (is_ccm alg) (ByCcm plain) (ByGcm cipher) e (subst ByGcm (sym q) h) }
+  gcm_by_text other e q h = record { part = subst (λ b. MatchBool b (ByCcm plain) (ByGcm cipher)) (sym e) (subst ByGcm (sym q) h) }
 
 -- ---- the text of no bytes
 

@@ -9,10 +9,8 @@ use Rattle.store_model.specs.Prelude.{buffer_after, given, reply_unless, room_ro
 use Rattle.aead_states.specs.Counted.{aead_text_rows}
 
 second_row : (n whole past more : Bool) (s t : Status) → None ≡ cond (not n) (Some s) (cond ((not whole || past) || more) (Some t) None) → (whole ≡ true) × (past ≡ false)
-second_row false whole past more s t e = cc
-second_row true false past more s t e = cc
-second_row true true true more s t e = cc
 second_row true true false more s t e = (refl, refl)
+second_row n whole past more s t e = cc
 
 -- the associated data is whole, and the text isn't past what was declared
 pub text_passed : (w : AeadWork) (more : ℕ) → None ≡ first_row (aead_text_rows w more) → (is_whole_ad w.lengths (length w.ad) ≡ true) × (is_past_payload w.lengths (length w.text + more) ≡ false)

@@ -1,5 +1,4 @@
 pub mod Ready
-pub mod Directions
 pub mod DeclaredLengths
 pub mod Counted
 pub mod Runs

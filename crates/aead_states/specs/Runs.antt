@@ -1,11 +1,17 @@
 -- What runs over the associated data and the text.
-use Rattle.std.specs.Prelude.{ℕ, Bool, List, MatchBool}
+use Rattle.std.specs.Prelude.{ℕ, Bool, List, MatchBool, if◌then◌else◌}
 use Rattle.crypto_specs.specs.Prelude.{aes_encrypt, ccm_text, gcm_text}
 use Rattle.aead_streams.specs.GcmStates.{HoldsGcmData, HoldsGcmText, IsClearGcm}
 use Rattle.aead_streams.specs.CcmStates.{HoldsCcmData, HoldsCcmText, IsClearCcm}
 use Rattle.store_model.specs.Prelude.{is_ccm, tag_bytes}
 use Rattle.aead_states.specs.declared.parts.Parts.{Parts}
-use Rattle.aead_states.specs.Directions.{cipher_of, plain_of}
+
+-- a text in the clear and enciphered, by whether it is encrypted, where f enciphers and deciphers
+abbrev pub plain_of : Bool → (List ℕ → List ℕ) → List ℕ → List ℕ
+plain_of encrypts f text = if encrypts then text else f text
+
+abbrev pub cipher_of : Bool → (List ℕ → List ℕ) → List ℕ → List ℕ
+cipher_of encrypts f text = if encrypts then f text else text
 
 -- all buffers are zeros
 pub record IsClearParts (r : Parts) : Type 0 where

@@ -13,18 +13,6 @@ pub(crate) struct Lengths {
     ghost payload_limit: { payload ≤ total_limit },
 }
 
-impl Lengths {
-    // Of lengths within the limit.
-    pub(crate) fn new(ad: u64, payload: u64) -> Lengths
-        requires ad { ad ≤ total_limit }
-        requires payload { payload ≤ total_limit }
-        ensures ad { result.ad ≡ ad }
-        ensures payload { result.payload ≡ payload }
-    {
-        Lengths { ad, payload }
-    }
-}
-
 // Whether so many bytes are past the limit.
 pub(crate) fn is_past_limit(n: u64) -> bool
     ensures { result ≡ nat_lt total_limit n }

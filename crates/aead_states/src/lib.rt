@@ -4,17 +4,13 @@
 ghost use Rattle.store_model.specs.Prelude.{aead_due, with_payload};
 ghost use Rattle.multipart.specs.Dues.{DueGrows};
 
-mod declarations;
 mod declared;
-mod family;
-mod finishes;
 mod lengths;
 mod nonces;
 mod parts;
 mod running;
-mod setups;
 mod state;
-mod updates;
+mod texts;
 
 pub use state::AeadState;
 

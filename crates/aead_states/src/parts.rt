@@ -4,8 +4,7 @@ ghost use Rattle.crypto_specs.specs.Prelude.{IsKey};
 ghost use Rattle.store_model.specs.Prelude.{aead_tag, aead_text, tag_bytes, total_limit};
 ghost use Rattle.store_model.specs.Aeads as model;
 ghost use Rattle.key_policy.specs.Names.{IsTagLength, NamesAead, is_ccm, permits_nonce_by};
-ghost use Rattle.aead_states.specs.Directions.{cipher_of, plain_of};
-ghost use Rattle.aead_states.specs.Runs.{HoldsData, HoldsPayload, IsClearParts};
+ghost use Rattle.aead_states.specs.Runs.{cipher_of, plain_of, HoldsData, HoldsPayload, IsClearParts};
 
 use aead_streams::{CcmState, GcmState};
 use aes_core::AesKey;

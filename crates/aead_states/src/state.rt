@@ -1,12 +1,22 @@
 // The state of an operation, and how its phase changes.
-ghost use Rattle.std.specs.Prelude.{◌≡◌};
-ghost use Rattle.store_model.specs.Prelude.{Inactive, Operation, is_inactive, AeadWork};
-ghost use Rattle.multipart.specs.Turns.{is_active};
+ghost use Rattle.std.specs.Prelude.{◌≡◌, true, false};
+ghost use Rattle.crypto_specs.specs.Prelude.{IsKey};
+ghost use Rattle.service_calls.specs.Answers.{plain_reply};
+ghost use Rattle.service_calls.specs.Meanings.{model_aead_step};
+ghost use Rattle.service_calls.specs.Random.{takes_nonce_bytes};
+ghost use Rattle.store_model.specs.Prelude.{Inactive, Operation, is_inactive, AeadWork, aead_step, refusal};
+ghost use Rattle.alg_encoding.specs.declared.table.Class.TheVariants.{Aead};
+ghost use Rattle.key_policy.specs.Names.{IsOfClass};
+ghost use Rattle.multipart.specs.Turns.{is_active, loses_key};
 ghost use Rattle.aead_states.specs.Holding.{IsAeadOperation, IsClearAead};
+ghost use Rattle.aead_states.specs.Setups.{aead_setup};
 
 use crate::running::RunningAead;
-use multipart::OperationState;
+use alg_encoding::Alg;
+use key_policy::aead_algorithm;
+use multipart::{Family, OperationState, Phase, Steps};
 use psa_status::Status;
+use service_calls::{AeadStep, Output};
 
 /// An AEAD in several parts: a setup with a key, the lengths and the nonce, associated data, text, and a finish, which
 /// makes the tag or compares it.
@@ -45,5 +55,78 @@ impl AeadState {
         ensures inactive { IsAeadOperation self.new Inactive }
     {
         self.state.wipe();
+    }
+
+    fn setup(&mut self, encrypts: bool, key: &[u8], alg: Alg) -> Result<(), Status>
+        requires key { IsKey key.now }
+        requires algorithm { IsOfClass Aead alg.0 }
+        ensures state { (op : Operation AeadWork) → IsAeadOperation self.old op →
+            IsAeadOperation self.new (aead_setup op encrypts alg.0 key.now).operation }
+        ensures reply { (op : Operation AeadWork) → IsAeadOperation self.old op →
+            plain_reply result ≡ (aead_setup op encrypts alg.0 key.now).reply }
+    {
+        self.state.phase.check_inactive()?;
+        let aead = aead_algorithm(alg)?;
+        self.state.work.start(encrypts, key, aead);
+        self.state.phase = Phase::Active;
+        Ok(())
+    }
+
+    /// Sets an inactive operation up to encrypt a text under a key. `BadState` where it isn't inactive.
+    pub fn aead_encrypt_setup(&mut self, key: &[u8], alg: Alg) -> Result<(), Status>
+        requires key { IsKey key.now }
+        requires algorithm { IsOfClass Aead alg.0 }
+        ensures state { (op : Operation AeadWork) → IsAeadOperation self.old op →
+            IsAeadOperation self.new (aead_setup op true alg.0 key.now).operation }
+        ensures reply { (op : Operation AeadWork) → IsAeadOperation self.old op →
+            plain_reply result ≡ (aead_setup op true alg.0 key.now).reply }
+    {
+        self.setup(true, key, alg)
+    }
+
+    /// Sets an inactive operation up to decrypt a text under a key. `BadState` where it isn't inactive.
+    pub fn aead_decrypt_setup(&mut self, key: &[u8], alg: Alg) -> Result<(), Status>
+        requires key { IsKey key.now }
+        requires algorithm { IsOfClass Aead alg.0 }
+        ensures state { (op : Operation AeadWork) → IsAeadOperation self.old op →
+            IsAeadOperation self.new (aead_setup op false alg.0 key.now).operation }
+        ensures reply { (op : Operation AeadWork) → IsAeadOperation self.old op →
+            plain_reply result ≡ (aead_setup op false alg.0 key.now).reply }
+    {
+        self.setup(false, key, alg)
+    }
+}
+
+impl<'a> Family<AeadStep<'a>> for AeadState {
+    ghost Work = { AeadWork };
+
+    ghost stands = { IsAeadOperation };
+
+    ghost meaning = { λ random w step room. aead_step random w (model_aead_step step room) };
+
+    ghost takes = { takes_nonce_bytes };
+
+    fn lose_key(&mut self) -> Status
+        ensures state { (own : Operation AeadWork) → IsAeadOperation self.old own → IsAeadOperation self.new (loses_key own).operation }
+        ensures reply { (own : Operation AeadWork) → IsAeadOperation self.old own → refusal result ≡ (loses_key own).reply }
+    {
+        self.state.lose_key()
+    }
+
+    fn takes_random(step: &AeadStep<'a>) -> bool {
+        RunningAead::takes_random(step)
+    }
+
+    fn draws(&self, step: &AeadStep<'a>, room: usize) -> usize {
+        self.state.draws(step, room)
+    }
+
+    fn step(
+        &mut self,
+        step: AeadStep<'a>,
+        random: &[u8; 16],
+        out: &mut [u8],
+    ) -> Result<Output, Status> {
+        self.state.step(step, random, out)
     }
 }

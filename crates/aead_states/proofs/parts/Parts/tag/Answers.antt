@@ -2,7 +2,7 @@ use Rattle.std.proofs.Common.{arith, false, length, refl, subst, sym, true, ℕ,
 use Rattle.crypto_specs.specs.Prelude.{aes_encrypt, ccm_text, gcm_text}
 use Rattle.aead_streams.specs.CcmStates.{HoldsCcmText}
 use Rattle.store_model.specs.Prelude.{aead_text, is_ccm, tag_bytes}
-use Rattle.aead_states.specs.Directions.{cipher_of, plain_of}
+use Rattle.aead_states.specs.Runs.{cipher_of, plain_of}
 use Rattle.aead_states.proofs.Parting.{text_by_ccm, text_by_gcm, length-plain, length-cipher, tag_is_ccm, tag_is_gcm}
 use Rattle.aead_states.proofs.parts.Parts.tag.Goals as goal
 

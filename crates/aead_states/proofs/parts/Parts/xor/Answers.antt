@@ -2,7 +2,7 @@ use Rattle.std.proofs.Common.{Bool, List, ap, false, sym, true, ℕ, ◌++◌, �
 use Rattle.crypto_specs.specs.Prelude.{aes_encrypt, ccm_text, gcm_text}
 use Rattle.store_model.specs.Prelude.{is_ccm, tag_bytes}
 use Rattle.key_policy.specs.Names.{is_ccm as is_ccm_kind}
-use Rattle.aead_states.specs.Directions.{cipher_of, plain_of}
+use Rattle.aead_states.specs.Runs.{cipher_of, plain_of}
 use Rattle.aead_states.proofs.Parting.{text_by_ccm, text_by_gcm, ccm_by_text, text_is_ccm, text_is_gcm}
 use Rattle.aead_states.proofs.parts.Parts.xor.Goals as goal
 

@@ -1,7 +1,7 @@
 use Rattle.std.proofs.Common.{subst, sym, ◌≡◌}
 use Rattle.store_model.specs.Prelude.{aead_step}
 use Rattle.service_calls.specs.Meanings.{model_aead_step}
-use Rattle.aead_states.proofs.family.RunningAeadStepsAeadStep.draws.Goals as goal
+use Rattle.aead_states.proofs.running.RunningAeadStepsAeadStep.draws.Goals as goal
 
 pub returns-in-GenerateNonce-clause-drawn : goal.returns-in-GenerateNonce-clause-drawn
 returns-in-GenerateNonce-clause-drawn c = λ r w h.
