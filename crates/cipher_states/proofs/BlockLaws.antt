@@ -1,6 +1,7 @@
 -- ECB and CBC of a text in two parts, of which the first is whole blocks.
 use Rattle.std.proofs.Common.{List, [], ap, append_assoc, ap₂, arith, drop, length, map, refl, suc, sym, take, zero, ℕ, ◌%◌, ◌*◌, ◌++◌, ◌+◌, ◌/◌, ◌∙◌, ◌∷◌, ◌≡◌}
-use Rattle.cipher_states.proofs.Common.{blocks, cbc_blocks, cbc_decrypt, cbc_encrypt, cbc_plain_blocks, drop-append-le, ecb_decrypt, ecb_encrypt, joined, last_block, map-append, take-append-le, xor_bytes}
+use Rattle.cipher_states.proofs.Common.{blocks, cbc_blocks, cbc_plain_blocks, drop-append-le, joined, last_block, take-append-le, xor_bytes}
+use Rattle.std.proofs.lemmas.Grind.{flat_map-append}
 use Rattle.std.proofs.lemmas.List.{length-append, length-take, length-drop, take-append-drop, append-nil, drop-drop, drop_at}
 use Rattle.crypto_specs.proofs.XorBytes.{length-xor_bytes}
 
@@ -16,16 +17,12 @@ blocks-append (suc k) m a b e =
     ∙ ap₂ (λ (c : List ℕ) (cs : List (List ℕ)). c ∷ cs) (take-append-le 16 a b (omega arith))
     (ap (blocks (k + m)) (drop-append-le 16 a b (omega arith)) ∙ blocks-append k m (drop 16 a) b (omega (arith, length-drop 16 a)))
 
-joined-append : (xs ys : List (List ℕ)) → joined (xs ++ ys) ≡ joined xs ++ joined ys
-joined-append [] ys = refl
-joined-append (x ∷ xs) ys = ap (λ (l : List ℕ). x ++ l) (joined-append xs ys) ∙ sym (append_assoc x (joined xs) (joined ys))
-
 length-blocks : (n : ℕ) (text : List ℕ) → length (blocks n text) ≡ n
 unfolding blocks
 length-blocks zero text = refl
 length-blocks (suc n) text = ap suc (length-blocks n (drop 16 text))
 
-blocks_joined : (n : ℕ) (text : List ℕ) → length text ≡ 16 * n → joined (blocks n text) ≡ text
+pub blocks_joined : (n : ℕ) (text : List ℕ) → length text ≡ 16 * n → joined (blocks n text) ≡ text
 unfolding blocks
 blocks_joined zero [] e = refl
 blocks_joined zero (x ∷ xs) e = absurd (omega arith)
@@ -36,7 +33,7 @@ abbrev pub EachLong : List (List ℕ) → Type 0
 EachLong [] = Unit {0}
 EachLong (b ∷ bs) = (length b ≡ 16) × EachLong bs
 
-blocks-long : (n : ℕ) (text : List ℕ) → length text ≡ 16 * n → EachLong (blocks n text)
+pub blocks-long : (n : ℕ) (text : List ℕ) → length text ≡ 16 * n → EachLong (blocks n text)
 unfolding blocks
 blocks-long zero text e = tt
 blocks-long (suc n) text e = (omega (arith, length-take 16 text), blocks-long n (drop 16 text) (omega (arith, length-drop 16 text)))
@@ -46,11 +43,11 @@ length-joined [] h = refl
 length-joined (b ∷ bs) h = omega (arith, length-append b (joined bs), length-joined bs h.1, h.0)
 
 -- a mode of blocks, on a text
-by_blocks : (List (List ℕ) → List (List ℕ)) → List ℕ → List ℕ
+unfoldable pub by_blocks : (List (List ℕ) → List (List ℕ)) → List ℕ → List ℕ
 by_blocks mode text = joined (mode (blocks (length text / 16) text))
 
 -- a mode that goes on as `next` after the first blocks
-two_parts : (mode next : List (List ℕ) → List (List ℕ)) (a b : List ℕ) → length a % 16 ≡ 0
+pub two_parts : (mode next : List (List ℕ) → List (List ℕ)) (a b : List ℕ) → length a % 16 ≡ 0
     → ((bs : List (List ℕ)) → mode (blocks (length a / 16) a ++ bs) ≡ mode (blocks (length a / 16) a) ++ next bs)
     → by_blocks mode (a ++ b) ≡ by_blocks mode a ++ by_blocks next b
 unfolding by_blocks
@@ -60,117 +57,31 @@ two_parts mode next a b whole goes_on =
     let count : length (a ++ b) / 16 ≡ k + m = omega (arith, length-append a b) in
     ap (λ (n : ℕ). joined (mode (blocks n (a ++ b)))) count
     ∙ ap (λ (bs : List (List ℕ)). joined (mode bs)) (blocks-append k m a b (omega arith))
-    ∙ ap joined (goes_on (blocks m b)) ∙ joined-append (mode (blocks k a)) (next (blocks m b))
+    ∙ ap joined (goes_on (blocks m b)) ∙ flat_map-append (λ (l : List ℕ). l) (mode (blocks k a)) (next (blocks m b))
 
--- ---- ECB
+-- a mode that leaves as many blocks, each of 16 bytes
+pub length-by_blocks : (mode : List (List ℕ) → List (List ℕ)) (text : List ℕ) → length text % 16 ≡ 0
+    → (let bs : List (List ℕ) = blocks (length text / 16) text in EachLong (mode bs) × (length (mode bs) ≡ length bs)) → length (by_blocks mode text) ≡ length text
+unfolding by_blocks
+length-by_blocks mode text whole h =
+    let n : ℕ = length text / 16 in
+    omega (arith, length-joined (mode (blocks n text)) h.0, h.1, length-blocks n text)
 
-module _ (e : List ℕ → List ℕ) where
-  pub ecb_parts : (a b : List ℕ) → length a % 16 ≡ 0 → ecb_encrypt e (a ++ b) ≡ ecb_encrypt e a ++ ecb_encrypt e b
-  unfolding ecb_encrypt by_blocks
-  ecb_parts a b whole = two_parts (map e) (map e) a b whole (λ bs. map-append e (blocks (length a / 16) a) bs)
+-- ---- the last block
 
-  pub ecb_plain_parts : (a b : List ℕ) → length a % 16 ≡ 0 → ecb_decrypt e (a ++ b) ≡ ecb_decrypt e a ++ ecb_decrypt e b
-  unfolding ecb_decrypt by_blocks
-  ecb_plain_parts a b whole = two_parts (map e) (map e) a b whole (λ bs. map-append e (blocks (length a / 16) a) bs)
+-- or what the blocks are chained with where there are none
+abbrev pub last_of : List ℕ → List (List ℕ) → List ℕ
+last_of chain [] = chain
+last_of chain (b ∷ bs) = last_of b bs
 
-  -- ---- CBC
-
-  -- the last of the blocks, or what they are chained with where there are none
-  abbrev pub last_of : List ℕ → List (List ℕ) → List ℕ
-  last_of chain [] = chain
-  last_of chain (b ∷ bs) = last_of b bs
-
-  cbc_on : (iv : List ℕ) (xs ys : List (List ℕ)) → cbc_blocks e iv (xs ++ ys) ≡ cbc_blocks e iv xs ++ cbc_blocks e (last_of iv (cbc_blocks e iv xs)) ys
-  unfolding cbc_blocks
-  cbc_on iv [] ys = refl
-  cbc_on iv (x ∷ xs) ys = ap (λ (l : List (List ℕ)). e (xor_bytes x iv) ∷ l) (cbc_on (e (xor_bytes x iv)) xs ys)
-
-  cbc_plain_on : (iv : List ℕ) (xs ys : List (List ℕ)) → cbc_plain_blocks e iv (xs ++ ys) ≡ cbc_plain_blocks e iv xs ++ cbc_plain_blocks e (last_of iv xs) ys
-  unfolding cbc_plain_blocks
-  cbc_plain_on iv [] ys = refl
-  cbc_plain_on iv (x ∷ xs) ys = ap (λ (l : List (List ℕ)). xor_bytes (e x) iv ∷ l) (cbc_plain_on x xs ys)
-
-  -- what the second part is chained with
-  abbrev pub cbc_chain : (iv a : List ℕ) → List ℕ
-  cbc_chain iv a = last_of iv (cbc_blocks e iv (blocks (length a / 16) a))
-
-  abbrev pub cbc_plain_chain : (iv a : List ℕ) → List ℕ
-  cbc_plain_chain iv a = last_of iv (blocks (length a / 16) a)
-
-  pub cbc_parts : (iv a b : List ℕ) → length a % 16 ≡ 0 → cbc_encrypt e iv (a ++ b) ≡ cbc_encrypt e iv a ++ cbc_encrypt e (cbc_chain iv a) b
-  unfolding cbc_encrypt by_blocks
-  cbc_parts iv a b whole = two_parts (cbc_blocks e iv) (cbc_blocks e (cbc_chain iv a)) a b whole (cbc_on iv (blocks (length a / 16) a))
-
-  pub cbc_plain_parts : (iv a b : List ℕ) → length a % 16 ≡ 0 → cbc_decrypt e iv (a ++ b) ≡ cbc_decrypt e iv a ++ cbc_decrypt e (cbc_plain_chain iv a) b
-  unfolding cbc_decrypt by_blocks
-  cbc_plain_parts iv a b whole = two_parts (cbc_plain_blocks e iv) (cbc_plain_blocks e (cbc_plain_chain iv a)) a b whole (cbc_plain_on iv (blocks (length a / 16) a))
-
-  -- as the end of the joined blocks
-  last_joined : (iv : List ℕ) (bs : List (List ℕ)) → length iv ≡ 16 → EachLong bs → last_block iv (joined bs) ≡ last_of iv bs
-  last_joined iv [] long h = append-nil iv
-  last_joined iv (b ∷ bs) long h =
-      let rest : List ℕ = joined bs in
-      let count : length (b ++ rest) ≡ 16 + length rest = omega (arith, length-append b rest, h.0) in
-      ap (λ (n : ℕ). drop n (iv ++ (b ++ rest))) count ∙ sym (drop-drop (length rest) 16 (iv ++ (b ++ rest)))
-      ∙ ap (drop (length rest)) (drop_at iv (b ++ rest) 16 long) ∙ last_joined b bs h.0 h.1
-
-  -- ---- lengths, where each list is enciphered to 16 bytes
-
-  module _ (long : (b : List ℕ) → length (e b) ≡ 16) where
-    ecb-long : (bs : List (List ℕ)) → EachLong (map e bs) × (length (map e bs) ≡ length bs)
-    ecb-long [] = (tt, refl)
-    ecb-long (b ∷ bs) = ((long b, (ecb-long bs).0), ap suc (ecb-long bs).1)
-
-    cbc-long : (iv : List ℕ) (bs : List (List ℕ)) → EachLong (cbc_blocks e iv bs) × (length (cbc_blocks e iv bs) ≡ length bs)
-    unfolding cbc_blocks
-    cbc-long iv [] = (tt, refl)
-    cbc-long iv (b ∷ bs) =
-        let c : List ℕ = e (xor_bytes b iv) in
-        ((long (xor_bytes b iv), (cbc-long c bs).0), ap suc (cbc-long c bs).1)
-
-    cbc_plain-long : (iv : List ℕ) (bs : List (List ℕ)) → length iv ≡ 16 → EachLong bs → EachLong (cbc_plain_blocks e iv bs) × (length (cbc_plain_blocks e iv bs) ≡ length bs)
-    unfolding cbc_plain_blocks
-    cbc_plain-long iv [] v h = (tt, refl)
-    cbc_plain-long iv (b ∷ bs) v h =
-        let rest : EachLong (cbc_plain_blocks e b bs) × (length (cbc_plain_blocks e b bs) ≡ length bs) = cbc_plain-long b bs h.0 h.1 in
-        ((omega (arith, length-xor_bytes (e b) iv, long b), rest.0), ap suc rest.1)
-
-    length-by_blocks : (mode : List (List ℕ) → List (List ℕ)) (text : List ℕ) → length text % 16 ≡ 0
-        → (let bs : List (List ℕ) = blocks (length text / 16) text in EachLong (mode bs) × (length (mode bs) ≡ length bs)) → length (by_blocks mode text) ≡ length text
-    unfolding by_blocks
-    length-by_blocks mode text whole h =
-        let n : ℕ = length text / 16 in
-        omega (arith, length-joined (mode (blocks n text)) h.0, h.1, length-blocks n text)
-
-    pub length-ecb : (text : List ℕ) → length text % 16 ≡ 0 → length (ecb_encrypt e text) ≡ length text
-    unfolding ecb_encrypt by_blocks
-    length-ecb text whole = length-by_blocks (map e) text whole (ecb-long (blocks (length text / 16) text))
-
-    pub length-ecb_plain : (text : List ℕ) → length text % 16 ≡ 0 → length (ecb_decrypt e text) ≡ length text
-    unfolding ecb_decrypt by_blocks
-    length-ecb_plain text whole = length-by_blocks (map e) text whole (ecb-long (blocks (length text / 16) text))
-
-    pub length-cbc : (iv text : List ℕ) → length text % 16 ≡ 0 → length (cbc_encrypt e iv text) ≡ length text
-    unfolding cbc_encrypt by_blocks
-    length-cbc iv text whole = length-by_blocks (cbc_blocks e iv) text whole (cbc-long iv (blocks (length text / 16) text))
-
-    pub length-cbc_plain : (iv text : List ℕ) → length iv ≡ 16 → length text % 16 ≡ 0 → length (cbc_decrypt e iv text) ≡ length text
-    unfolding cbc_decrypt by_blocks
-    length-cbc_plain iv text v whole =
-        let n : ℕ = length text / 16 in
-        length-by_blocks (cbc_plain_blocks e iv) text whole (cbc_plain-long iv (blocks n text) v (blocks-long n text (omega arith)))
-
-    -- the chain as the last block
-    pub cbc_chain_is : (iv a : List ℕ) → length iv ≡ 16 → last_block iv (cbc_encrypt e iv a) ≡ cbc_chain iv a
-    unfolding cbc_encrypt
-    cbc_chain_is iv a v =
-        let bs : List (List ℕ) = blocks (length a / 16) a in
-        last_joined iv (cbc_blocks e iv bs) v (cbc-long iv bs).0
-
-    pub cbc_plain_chain_is : (iv a : List ℕ) → length iv ≡ 16 → length a % 16 ≡ 0 → last_block iv a ≡ cbc_plain_chain iv a
-    cbc_plain_chain_is iv a v whole =
-        let n : ℕ = length a / 16 in
-        ap (last_block iv) (sym (blocks_joined n a (omega arith))) ∙ last_joined iv (blocks n a) v (blocks-long n a (omega arith))
+-- as the end of the joined blocks
+pub last_joined : (iv : List ℕ) (bs : List (List ℕ)) → length iv ≡ 16 → EachLong bs → last_block iv (joined bs) ≡ last_of iv bs
+last_joined iv [] long h = append-nil iv
+last_joined iv (b ∷ bs) long h =
+    let rest : List ℕ = joined bs in
+    let count : length (b ++ rest) ≡ 16 + length rest = omega (arith, length-append b rest, h.0) in
+    ap (λ (n : ℕ). drop n (iv ++ (b ++ rest))) count ∙ sym (drop-drop (length rest) 16 (iv ++ (b ++ rest)))
+    ∙ ap (drop (length rest)) (drop_at iv (b ++ rest) 16 long) ∙ last_joined b bs h.0 h.1
 
 -- the last block of two parts
 pub last_twice : (chain a b : List ℕ) → last_block chain (a ++ b) ≡ last_block (last_block chain a) b
@@ -179,3 +90,36 @@ last_twice chain a b =
     ap₂ (λ (n : ℕ) (l : List ℕ). drop n l) (length-append a b) (sym (append_assoc chain a b))
     ∙ sym (drop-drop (length b) (length a) (front ++ b))
     ∙ ap (drop (length b)) (drop-append-le (length a) front b (omega (arith, length-append chain a)))
+
+-- ---- the modes
+
+module _ (e : List ℕ → List ℕ) where
+  pub cbc_on : (iv : List ℕ) (xs ys : List (List ℕ)) → cbc_blocks e iv (xs ++ ys) ≡ cbc_blocks e iv xs ++ cbc_blocks e (last_of iv (cbc_blocks e iv xs)) ys
+  unfolding cbc_blocks
+  cbc_on iv [] ys = refl
+  cbc_on iv (x ∷ xs) ys = ap (λ (l : List (List ℕ)). e (xor_bytes x iv) ∷ l) (cbc_on (e (xor_bytes x iv)) xs ys)
+
+  pub cbc_plain_on : (iv : List ℕ) (xs ys : List (List ℕ)) → cbc_plain_blocks e iv (xs ++ ys) ≡ cbc_plain_blocks e iv xs ++ cbc_plain_blocks e (last_of iv xs) ys
+  unfolding cbc_plain_blocks
+  cbc_plain_on iv [] ys = refl
+  cbc_plain_on iv (x ∷ xs) ys = ap (λ (l : List (List ℕ)). xor_bytes (e x) iv ∷ l) (cbc_plain_on x xs ys)
+
+  -- where each list is enciphered to 16 bytes
+  module _ (long : (b : List ℕ) → length (e b) ≡ 16) where
+    pub ecb-long : (bs : List (List ℕ)) → EachLong (map e bs) × (length (map e bs) ≡ length bs)
+    ecb-long [] = (tt, refl)
+    ecb-long (b ∷ bs) = ((long b, (ecb-long bs).0), ap suc (ecb-long bs).1)
+
+    pub cbc-long : (iv : List ℕ) (bs : List (List ℕ)) → EachLong (cbc_blocks e iv bs) × (length (cbc_blocks e iv bs) ≡ length bs)
+    unfolding cbc_blocks
+    cbc-long iv [] = (tt, refl)
+    cbc-long iv (b ∷ bs) =
+        let c : List ℕ = e (xor_bytes b iv) in
+        ((long (xor_bytes b iv), (cbc-long c bs).0), ap suc (cbc-long c bs).1)
+
+    pub cbc_plain-long : (iv : List ℕ) (bs : List (List ℕ)) → length iv ≡ 16 → EachLong bs → EachLong (cbc_plain_blocks e iv bs) × (length (cbc_plain_blocks e iv bs) ≡ length bs)
+    unfolding cbc_plain_blocks
+    cbc_plain-long iv [] v h = (tt, refl)
+    cbc_plain-long iv (b ∷ bs) v h =
+        let rest : EachLong (cbc_plain_blocks e b bs) × (length (cbc_plain_blocks e b bs) ≡ length bs) = cbc_plain-long b bs h.0 h.1 in
+        ((omega (arith, length-xor_bytes (e b) iv, long b), rest.0), ap suc rest.1)

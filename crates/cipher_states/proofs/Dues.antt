@@ -1,10 +1,11 @@
 -- The output that is due, by the mode and the direction.
 use Rattle.std.proofs.Common.{Bool, List, ap, ap₂, cond, drop, false, inl, inr, length, refl, subst, sym, take, true, ℕ, ◌%◌, ◌++◌, ◌∙◌, ◌≡◌, ◌≤◌, ◌⊎◌}
 use Rattle.cipher_states.proofs.Common.{CbcNoPadding, CbcPkcs7, Ctr, EcbNoPadding, Mode, Way, Whole, aes_encrypt, block_number, bytes_or_empty, chains, cipher_due, ctr_xor, due_bytes, due_deciphered, due_enciphered, is_stream, keeps_last, length-text_xor, mode_of, next_chain, processed, take-append-le, text_xor, text_xor-append, way_of, with_text}
-use Rattle.std.proofs.lemmas.List.{length-append, take_at, drop_at, take-append-drop, take-take, length-take-le}
+use Rattle.std.proofs.lemmas.Bool.{cases_Bool}
+use Rattle.std.proofs.lemmas.List.{length-append, take_at, drop_at, take-append-drop, take-take}
 use Rattle.aead_streams.proofs.ModeStreams.{aes_keeps_length, ctr_is, ctr_further}
 use Rattle.multipart.specs.Dues.{DueGrows}
-use Rattle.cipher_states.proofs.TextPlaces.{due-whole, due-within, due-more}
+use Rattle.cipher_states.proofs.TextPlaces.{due-within, due-more, whole_front}
 use Rattle.cipher_states.proofs.WayLaws.{processed_grows, processed_parts}
 
 -- what is due, by the mode
@@ -14,19 +15,14 @@ due_under mode encrypts key iv text = cond encrypts (due_enciphered mode key iv 
 pub stream_due : (mode : Mode) (encrypts : Bool) (key iv text : List ℕ) → is_stream mode ≡ true → due_under mode encrypts key iv text ≡ ctr_xor (aes_encrypt key) iv text
 stream_due Ctr true key iv text e = refl
 stream_due Ctr false key iv text e = refl
-stream_due CbcNoPadding encrypts key iv text e = cc
-stream_due CbcPkcs7 encrypts key iv text e = cc
-stream_due EcbNoPadding encrypts key iv text e = cc
+stream_due mode encrypts key iv text e = cc
 
 pub blocks_due : (mode : Mode) (encrypts : Bool) (key iv text : List ℕ) → is_stream mode ≡ false
     → due_under mode encrypts key iv text ≡ processed (way_of mode encrypts) key iv (take (due_bytes (keeps_last mode encrypts) (length text)) text)
 blocks_due Ctr encrypts key iv text e = cc
 blocks_due CbcNoPadding true key iv text e = refl
-blocks_due CbcNoPadding false key iv text e = refl
-blocks_due CbcPkcs7 true key iv text e = refl
-blocks_due CbcPkcs7 false key iv text e = refl
-blocks_due EcbNoPadding true key iv text e = refl
-blocks_due EcbNoPadding false key iv text e = refl
+blocks_due mode true key iv text e = refl
+blocks_due mode false key iv text e = refl
 
 -- ---- what a further piece makes due
 
@@ -50,11 +46,10 @@ module _ (mode : Mode) (encrypts : Bool) (way : Way) (keeps : Bool) (other : is_
       → (chains way ≡ true → length iv ≡ 16) → (chains way ≡ true → chain ≡ next_chain way key iv (take (due_bytes keeps (length text)) text))
       → drop (length (due_under mode encrypts key iv text)) (due_under mode encrypts key iv (text ++ piece)) ≡ processed way key chain out
   blocks_fresh chain text piece out front v c =
-      let d : ℕ = due_bytes keeps (length text) in
-      let multiple : length (take d text) % 16 ≡ 0 = ap (λ (n : ℕ). n % 16) (length-take-le d text (due-within keeps (length text))) ∙ due-whole keeps (length text) in
+      let front_text : List ℕ = take (due_bytes keeps (length text)) text in
       ap₂ (λ (l m : List ℕ). drop (length l) m) (due_by text)
-      (due_by (text ++ piece) ∙ ap (processed way key iv) front ∙ processed_parts way key iv chain (take d text) out multiple v c)
-      ∙ drop_at (processed way key iv (take d text)) (processed way key chain out) _ refl
+      (due_by (text ++ piece) ∙ ap (processed way key iv) front ∙ processed_parts way key iv chain front_text out (whole_front keeps text) v c)
+      ∙ drop_at (processed way key iv front_text) (processed way key chain out) _ refl
 
 -- ---- more text only adds to what is due
 
@@ -79,20 +74,13 @@ blocks_grow mode encrypts key iv text piece e =
     let all : List ℕ = take f (text ++ piece) in
     let front : take d all ≡ take d text = take-take d f (text ++ piece) more ∙ take-append-le d text piece within in
     let split : all ≡ take d text ++ drop d all = sym (take-append-drop d all) ∙ ap (λ (l : List ℕ). l ++ drop d all) front in
-    let multiple : length (take d text) % 16 ≡ 0 = ap (λ (n : ℕ). n % 16) (length-take-le d text within) ∙ due-whole keeps (length text) in
     let is : due_under mode encrypts key iv text ≡ processed way key iv (take d text) = blocks_due mode encrypts key iv text e in
     ap₂ (λ (l m : List ℕ). take (length l) m) is
-    (blocks_due mode encrypts key iv (text ++ piece) e ∙ ap (processed way key iv) split ∙ processed_grows way key iv (take d text) (drop d all) multiple)
+    (blocks_due mode encrypts key iv (text ++ piece) e ∙ ap (processed way key iv) split ∙ processed_grows way key iv (take d text) (drop d all) (whole_front keeps text))
     ∙ take_at (processed way key iv (take d text)) _ _ refl ∙ sym is
 
-pub either : (mode : Mode) → (is_stream mode ≡ true) ⊎ (is_stream mode ≡ false)
-either Ctr = inl refl
-either CbcNoPadding = inr refl
-either CbcPkcs7 = inr refl
-either EcbNoPadding = inr refl
-
 pub due_grows : DueGrows cipher_due with_text
-due_grows w input = elim (either (mode_of w.alg)) [
+due_grows w input = elim (cases_Bool (is_stream (mode_of w.alg))) [
   | inl e ↦ stream_grows (mode_of w.alg) w.encrypts w.key (bytes_or_empty w.iv) w.text input e
   | inr e ↦ blocks_grow (mode_of w.alg) w.encrypts w.key (bytes_or_empty w.iv) w.text input e
 ]

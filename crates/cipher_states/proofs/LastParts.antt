@@ -1,14 +1,13 @@
 -- What a finish gives.
-use Rattle.std.proofs.Common.{Bool, List, None, Option, Some, [], ap, ap₂, arith, cond, drop, false, is_some, length, not, refl, sym, take, true, ℕ, ◌%◌, ◌*◌, ◌++◌, ◌/◌, ◌<◌, ◌==◌, ◌||◌, ◌∙◌, ◌≡◌}
+use Rattle.std.proofs.Common.{Bool, List, None, Option, Some, [], ap, append_assoc, ap₂, arith, cond, drop, false, is_some, length, not, refl, replicate, sym, take, true, ℕ, ◌%◌, ◌*◌, ◌++◌, ◌-◌, ◌/◌, ◌<◌, ◌==◌, ◌||◌, ◌∙◌, ◌≡◌}
 use Rattle.cipher_states.proofs.Common.{After, Bytes, CbcDecrypt, CbcEncrypt, CbcNoPadding, CbcPkcs7, CipherWork, Ctr, EcbNoPadding, InError, Inactive, InvalidPadding, Mode, Success, aes_decrypt, aes_encrypt, bytes_or_empty, cbc_decrypt, cbc_encrypt, deciphered, drop_all, due_bytes, ecb_decrypt, ecb_encrypt, enciphered, ends, given, is_ciphertext_length, last_length, last_part, mode_of, next_chain, pkcs7_padded, pkcs7_unpadded, plain_or_zeros, processed, spoiled, takes_whole_blocks, whole_text}
 use Rattle.std.specs.Option.{option_map}
-use Rattle.std.proofs.lemmas.Bool.Decides.{nat_tests}
-use Rattle.std.proofs.lemmas.List.{take_all, drop_at, take-append-drop, length-take-le}
+use Rattle.std.proofs.lemmas.Bool.{eqb-true}
+use Rattle.std.proofs.lemmas.List.{length-append, take_all, drop_at, take-append-drop}
 use Rattle.cipher_states.proofs.WayLaws.{processed_parts, length-processed}
-use Rattle.cipher_states.proofs.TextPlaces.{due-whole, due-within}
+use Rattle.cipher_states.proofs.TextPlaces.{whole_front}
 use Rattle.cipher_states.proofs.Dues.{due_under}
 use Rattle.cipher_modes.proofs.PaddedTexts.{unpadded_behind}
-use Rattle.cipher_states.proofs.Paddings.{padded_behind}
 
 -- ---- by mode, direction, key, initialisation vector and text
 
@@ -25,29 +24,22 @@ end_at m encrypts key iv text = part_at m (due_under m encrypts key iv text) (wh
 abbrev pub is_whole_at : Mode → Bool → ℕ → Bool
 is_whole_at m encrypts n = cond encrypts (not (takes_whole_blocks m) || n % 16 == 0) (is_ciphertext_length m n)
 
-part_is : (w : CipherWork) (o : Option (List ℕ)) → last_part w o ≡ part_at (mode_of w.alg) (due_under (mode_of w.alg) w.encrypts w.key (bytes_or_empty w.iv) w.text) o
-part_is w (Some text) = refl
-part_is w None = refl
-
 pub end_is : (w : CipherWork) → last_part w (whole_text w) ≡ end_at (mode_of w.alg) w.encrypts w.key (bytes_or_empty w.iv) w.text
-end_is w = part_is w (whole_text w)
+end_is w = refl
 
 -- ---- without padding nothing is left
 
 all_blocks : (text : List ℕ) → length text % 16 ≡ 0 → take (16 * (length text / 16)) text ≡ text
 all_blocks text whole = take_all (16 * (length text / 16)) text (omega arith)
 
-multiple : (n : ℕ) → (n % 16 == 0) ≡ true → n % 16 ≡ 0
-multiple n e = grind (arith, nat_tests)
-
 all_due : (m : Mode) (encrypts : Bool) (key iv text : List ℕ) → last_length m ≡ 0 → is_whole_at m encrypts (length text) ≡ true → whole_at m encrypts key iv text ≡ Some (due_under m encrypts key iv text)
 all_due Ctr true key iv text e h = refl
 all_due Ctr false key iv text e h = refl
-all_due CbcNoPadding true key iv text e h = ap (λ (l : List ℕ). Some (cbc_encrypt (aes_encrypt key) iv l)) (sym (all_blocks text (multiple (length text) h)))
-all_due CbcNoPadding false key iv text e h = ap (λ (l : List ℕ). Some (cbc_decrypt (aes_decrypt key) iv l)) (sym (all_blocks text (multiple (length text) h)))
+all_due CbcNoPadding true key iv text e h = ap (λ (l : List ℕ). Some (cbc_encrypt (aes_encrypt key) iv l)) (sym (all_blocks text (eqb-true (length text % 16) 0 h)))
+all_due CbcNoPadding false key iv text e h = ap (λ (l : List ℕ). Some (cbc_decrypt (aes_decrypt key) iv l)) (sym (all_blocks text (eqb-true (length text % 16) 0 h)))
 all_due CbcPkcs7 encrypts key iv text e h = absurd (omega arith)
-all_due EcbNoPadding true key iv text e h = ap (λ (l : List ℕ). Some (ecb_encrypt (aes_encrypt key) l)) (sym (all_blocks text (multiple (length text) h)))
-all_due EcbNoPadding false key iv text e h = ap (λ (l : List ℕ). Some (ecb_decrypt (aes_decrypt key) l)) (sym (all_blocks text (multiple (length text) h)))
+all_due EcbNoPadding true key iv text e h = ap (λ (l : List ℕ). Some (ecb_encrypt (aes_encrypt key) l)) (sym (all_blocks text (eqb-true (length text % 16) 0 h)))
+all_due EcbNoPadding false key iv text e h = ap (λ (l : List ℕ). Some (ecb_decrypt (aes_decrypt key) l)) (sym (all_blocks text (eqb-true (length text % 16) 0 h)))
 
 pub nothing_left : (m : Mode) (encrypts : Bool) (key iv text : List ℕ) → last_length m ≡ 0 → is_whole_at m encrypts (length text) ≡ true
     → end_at m encrypts key iv text ≡ ends (record { status = Success; output = Bytes []; needed = 0 })
@@ -59,17 +51,22 @@ nothing_left m encrypts key iv text e h =
 -- ---- the last block, with its padding
 
 pub pkcs7_mode : (m : Mode) → 0 < last_length m → m ≡ CbcPkcs7
-pkcs7_mode Ctr h = absurd (omega arith)
-pkcs7_mode CbcNoPadding h = absurd (omega arith)
 pkcs7_mode CbcPkcs7 h = refl
-pkcs7_mode EcbNoPadding h = absurd (omega arith)
+pkcs7_mode m h = absurd (omega arith)
+
+-- whole blocks stay as they are
+padded_behind : (front last : List ℕ) → length front % 16 ≡ 0 → pkcs7_padded (front ++ last) ≡ front ++ pkcs7_padded last
+unfolding pkcs7_padded
+padded_behind front last whole =
+    let same : 16 - length (front ++ last) % 16 ≡ 16 - length last % 16 = omega (arith, length-append front last) in
+    ap (λ (p : ℕ). (front ++ last) ++ replicate p p) same ∙ append_assoc front last (replicate (16 - length last % 16) (16 - length last % 16))
 
 pub padded_end : (key iv chain text last : List ℕ) → length iv ≡ 16 → last ≡ drop (due_bytes false (length text)) text → chain ≡ next_chain CbcEncrypt key iv (take (due_bytes false (length text)) text)
     → end_at CbcPkcs7 true key iv text ≡ ends (record (given (processed CbcEncrypt key chain (pkcs7_padded last))) { needed = 16 })
 padded_end key iv chain text last v el ec =
     let d : ℕ = due_bytes false (length text) in
     let front : List ℕ = take d text in
-    let whole : length front % 16 ≡ 0 = ap (λ (n : ℕ). n % 16) (length-take-le d text (due-within false (length text))) ∙ due-whole false (length text) in
+    let whole : length front % 16 ≡ 0 = whole_front false text in
     let parts : pkcs7_padded text ≡ front ++ pkcs7_padded last =
     ap pkcs7_padded (sym (take-append-drop d text)) ∙ padded_behind front (drop d text) whole ∙ ap (λ (l : List ℕ). front ++ pkcs7_padded l) (sym el) in
     let due : List ℕ = processed CbcEncrypt key iv front in
@@ -94,7 +91,7 @@ pub unpadded_is : (key iv chain text last : List ℕ) → length iv ≡ 16 → l
 unpadded_is key iv chain text last v long el ec chain_long =
     let d : ℕ = due_bytes true (length text) in
     let front : List ℕ = take d text in
-    let whole : length front % 16 ≡ 0 = ap (λ (n : ℕ). n % 16) (length-take-le d text (due-within true (length text))) ∙ due-whole true (length text) in
+    let whole : length front % 16 ≡ 0 = whole_front true text in
     let due : List ℕ = processed CbcDecrypt key iv front in
     let block : List ℕ = processed CbcDecrypt key chain last in
     let block_long : length block ≡ 16 = length-processed CbcDecrypt key chain last (λ _. chain_long) (ap (λ (n : ℕ). n % 16) long) ∙ long in

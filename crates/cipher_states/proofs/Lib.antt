@@ -5,7 +5,5 @@ pub mod TextPlaces
 pub mod Dues
 pub mod RunningTexts
 pub mod Beginnings
-pub mod Paddings
 pub mod LastParts
 pub mod Finishing
-pub mod Buffers

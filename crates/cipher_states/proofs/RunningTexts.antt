@@ -1,7 +1,9 @@
 -- What a RunningCipher stands for.
-use Rattle.std.proofs.Common.{Bool, List, None, Some, ap, arith, cond, drop, false, length, nat_lt, refl, subst, sym, take, true, ℕ, ◌%◌, ◌++◌, ◌+◌, ◌<◌, ◌∙◌, ◌≡◌, ◌≤◌}
-use Rattle.cipher_states.proofs.Common.{BufferTooSmall, CbcNoPadding, CbcPkcs7, CipherWork, Ctr, EcbNoPadding, HoldsCipher, IsAt, Mode, RunningCipher, RunsBlocks, RunsMode, Whole, aes_encrypt, block_number, bytes_or_empty, chains, cipher_fresh, cipher_update_rows, due_bytes, due_now, first_row, is_stream, keeps_last, length-text_xor, mode_of, model_mode, processed, room_rows, takes_text, text_xor, total_limit, way_of, with_text}
-use Rattle.std.proofs.lemmas.Bool.{lt-ltb, le-ltb}
+use Rattle.std.proofs.Common.{Bool, List, MatchBool, None, Some, ap, arith, drop, false, length, nat_lt, refl, subst, sym, take, true, ℕ, ◌%◌, ◌++◌, ◌+◌, ◌<◌, ◌∙◌, ◌≡◌, ◌≤◌}
+use Rattle.cipher_states.proofs.Common.{BufferTooSmall, CipherWork, HoldsCipher, IsAt, Mode, RunningCipher, RunsBlocks, Whole, aes_encrypt, block_number, bytes_or_empty, chains, cipher_fresh, cipher_update_rows, due_bytes, due_now, first_row, is_stream, keeps_last, length-text_xor, mode_of, model_mode, processed, room_rows, takes_text, text_xor, total_limit, way_of, with_text}
+use Rattle.std.proofs.lemmas.Bool.{MatchBool-at_false, MatchBool-at_true, cond-false, cond-true, lt-ltb, le-ltb}
+use Rattle.aead_streams.specs.declared.key_stream.KeyStream.{KeyStream}
+use Rattle.cipher_states.specs.declared.block_text.BlockText.{BlockText}
 use Rattle.std.proofs.lemmas.List.{length-append, length-take, length-drop, take-append-drop}
 use Rattle.cipher_states.proofs.WayLaws.{length-processed, length-next_chain}
 use Rattle.cipher_states.proofs.TextPlaces.{due-whole, due-within, further_front}
@@ -9,42 +11,31 @@ use Rattle.cipher_states.proofs.Dues.{stream_fresh, blocks_fresh}
 
 -- ---- by the mode
 
-stream_mode : (m : Mode) (s : RunningCipher) (w : CipherWork) → is_stream m ≡ true → RunsMode m s w → IsAt s.stream (aes_encrypt w.key) Whole (block_number (bytes_or_empty w.iv)) (length w.text)
-stream_mode Ctr s w e h = h
-stream_mode CbcNoPadding s w e h = cc
-stream_mode CbcPkcs7 s w e h = cc
-stream_mode EcbNoPadding s w e h = cc
+module _ (m : Mode) (stream : KeyStream) (blocks : BlockText) (w : CipherWork) where
+  abbrev RunsStream : List ℕ → Type 0
+  RunsStream key = IsAt stream (aes_encrypt key) Whole (block_number (bytes_or_empty w.iv)) (length w.text)
 
-block_mode : (m : Mode) (s : RunningCipher) (w : CipherWork) → is_stream m ≡ false → RunsMode m s w
-    → RunsBlocks s.blocks (way_of m w.encrypts) (keeps_last m w.encrypts) w.key (bytes_or_empty w.iv) w.text
-block_mode Ctr s w e h = cc
-block_mode CbcNoPadding s w e h = h
-block_mode CbcPkcs7 s w e h = h
-block_mode EcbNoPadding s w e h = h
+  abbrev RunsText : List ℕ → Type 0
+  RunsText key = RunsBlocks blocks (way_of m w.encrypts) (keeps_last m w.encrypts) key (bytes_or_empty w.iv) w.text
 
-pub by_stream : (m : Mode) (s : RunningCipher) (w : CipherWork) → is_stream m ≡ true → IsAt s.stream (aes_encrypt w.key) Whole (block_number (bytes_or_empty w.iv)) (length w.text) → RunsMode m s w
-by_stream Ctr s w e h = h
-by_stream CbcNoPadding s w e h = cc
-by_stream CbcPkcs7 s w e h = cc
-by_stream EcbNoPadding s w e h = cc
+  pub by_stream : is_stream m ≡ true → RunsStream w.key → MatchBool (is_stream m) (RunsStream w.key) (RunsText w.key)
+  by_stream e h = subst (λ b. MatchBool b (RunsStream w.key) (RunsText w.key)) (sym e) h
 
-pub by_blocks : (m : Mode) (s : RunningCipher) (w : CipherWork) → is_stream m ≡ false
-    → RunsBlocks s.blocks (way_of m w.encrypts) (keeps_last m w.encrypts) w.key (bytes_or_empty w.iv) w.text → RunsMode m s w
-by_blocks Ctr s w e h = cc
-by_blocks CbcNoPadding s w e h = h
-by_blocks CbcPkcs7 s w e h = h
-by_blocks EcbNoPadding s w e h = h
+  pub by_blocks : is_stream m ≡ false → RunsText w.key → MatchBool (is_stream m) (RunsStream w.key) (RunsText w.key)
+  by_blocks e h = subst (λ b. MatchBool b (RunsStream w.key) (RunsText w.key)) (sym e) h
 
 -- ---- what a further piece makes due, under the key that the state has
 
 module _ (s : RunningCipher) (w : CipherWork) (h : HoldsCipher s w) (ready : takes_text w ≡ true) where
-  pub runs_stream : is_stream (model_mode s.mode) ≡ true → IsAt s.stream (aes_encrypt s.key) Whole (block_number (bytes_or_empty w.iv)) (length w.text)
-  runs_stream e = subst (λ (k : List ℕ). IsAt s.stream (aes_encrypt k) Whole (block_number (bytes_or_empty w.iv)) (length w.text)) (sym h.key)
-      (stream_mode (mode_of w.alg) s w (ap is_stream (sym h.mode) ∙ e) (h.text ready))
+  pub runs_stream : is_stream (model_mode s.mode) ≡ true → RunsStream (mode_of w.alg) s.stream s.blocks w s.key
+  runs_stream e =
+      subst (RunsStream (mode_of w.alg) s.stream s.blocks w) (sym h.key)
+      (MatchBool-at_true (RunsStream (mode_of w.alg) s.stream s.blocks w w.key) (RunsText (mode_of w.alg) s.stream s.blocks w w.key) (ap is_stream (sym h.mode) ∙ e) (h.text ready))
 
-  pub runs_blocks : is_stream (model_mode s.mode) ≡ false → RunsBlocks s.blocks (way_of (mode_of w.alg) w.encrypts) (keeps_last (mode_of w.alg) w.encrypts) s.key (bytes_or_empty w.iv) w.text
-  runs_blocks e = subst (λ (k : List ℕ). RunsBlocks s.blocks (way_of (mode_of w.alg) w.encrypts) (keeps_last (mode_of w.alg) w.encrypts) k (bytes_or_empty w.iv) w.text) (sym h.key)
-      (block_mode (mode_of w.alg) s w (ap is_stream (sym h.mode) ∙ e) (h.text ready))
+  pub runs_blocks : is_stream (model_mode s.mode) ≡ false → RunsText (mode_of w.alg) s.stream s.blocks w s.key
+  runs_blocks e =
+      subst (RunsText (mode_of w.alg) s.stream s.blocks w) (sym h.key)
+      (MatchBool-at_false (RunsStream (mode_of w.alg) s.stream s.blocks w w.key) (RunsText (mode_of w.alg) s.stream s.blocks w w.key) (ap is_stream (sym h.mode) ∙ e) (h.text ready))
 
   pub fresh_stream : is_stream (model_mode s.mode) ≡ true → (input : List ℕ) → cipher_fresh w (with_text w input) ≡ text_xor (aes_encrypt s.key) Whole (block_number (bytes_or_empty w.iv)) (length w.text) input
   fresh_stream e input =
@@ -70,15 +61,12 @@ module _ (s : RunningCipher) (w : CipherWork) (h : HoldsCipher s w) (ready : tak
       ∙ blocks_fresh (mode_of w.alg) w.encrypts s.blocks.way s.blocks.keeps_last (ap is_stream (sym h.mode) ∙ e) r.way r.keeps_last s.key iv s.blocks.chain w.text input (take n waiting)
       (further_front s.blocks s.key iv w.text input r.holds (take n waiting) (drop n waiting) size (take-append-drop n waiting)) r.holds.vector r.holds.chain
 
-  due_stream : (more : ℕ) → is_stream (model_mode s.mode) ≡ true → due_now s more ≡ more
-  due_stream more e = ap (λ (b : Bool). cond b more (due_bytes s.blocks.keeps_last (s.blocks.used + more))) e
-
   pub due_blocks : (more : ℕ) → is_stream (model_mode s.mode) ≡ false → due_now s more ≡ due_bytes s.blocks.keeps_last (s.blocks.used + more)
-  due_blocks more e = ap (λ (b : Bool). cond b more (due_bytes s.blocks.keeps_last (s.blocks.used + more))) e
+  due_blocks more e = cond-false (is_stream (model_mode s.mode)) more _ e
 
   fresh_length : (b : Bool) → is_stream (model_mode s.mode) ≡ b → (input : List ℕ) → length (cipher_fresh w (with_text w input)) ≡ due_now s (length input)
   fresh_length true e input =
-      ap length (fresh_stream e input) ∙ length-text_xor (aes_encrypt s.key) Whole (block_number (bytes_or_empty w.iv)) (length w.text) input ∙ sym (due_stream (length input) e)
+      ap length (fresh_stream e input) ∙ length-text_xor (aes_encrypt s.key) Whole (block_number (bytes_or_empty w.iv)) (length w.text) input ∙ sym (cond-true (is_stream (model_mode s.mode)) (length input) _ e)
   fresh_length false e input =
       let r = runs_blocks e in
       let n : ℕ = due_bytes s.blocks.keeps_last (s.blocks.used + length input) in

@@ -23,6 +23,9 @@ due-zero : (keeps : Bool) → due_bytes keeps 0 ≡ 0
 due-zero true = refl
 due-zero false = refl
 
+pub whole_front : (keeps : Bool) (text : List ℕ) → length (take (due_bytes keeps (length text)) text) % 16 ≡ 0
+whole_front keeps text = ap (λ (n : ℕ). n % 16) (length-take-le (due_bytes keeps (length text)) text (due-within keeps (length text))) ∙ due-whole keeps (length text)
+
 -- of a further piece, by what is kept
 pub due-further : (keeps : Bool) (n used more : ℕ) → due_bytes keeps n + used ≡ n → due_bytes keeps (n + more) ≡ due_bytes keeps n + due_bytes keeps (used + more)
 due-further true n used more e = omega arith
@@ -32,10 +35,9 @@ due-further false n used more e = omega arith
 
 first_chain : (way : Way) (key iv : List ℕ) → next_chain way key iv [] ≡ iv
 unfolding cbc_encrypt cbc_blocks blocks
-first_chain EcbEncrypt key iv = refl
-first_chain EcbDecrypt key iv = refl
 first_chain CbcEncrypt key iv = append-nil iv
 first_chain CbcDecrypt key iv = append-nil iv
+first_chain way key iv = refl
 
 pub fresh_text : (t : BlockText) (key iv : List ℕ) → t.used ≡ 0 → length t.chain ≡ 16 → (chains t.way ≡ true → t.chain ≡ iv) → HoldsBlockText t key iv []
 fresh_text t key iv u long e =
@@ -84,14 +86,13 @@ module _ (s : BlockText) (key iv text piece : List ℕ) (h : HoldsBlockText s ke
   grown_text t out size cut count ew ek ec =
       let d : ℕ = due_bytes s.keeps_last (length text) in
       let front : take (due_bytes s.keeps_last (length (text ++ piece))) (text ++ piece) ≡ take d text ++ out = further_front out (take t.used t.kept) size cut in
-      let multiple : length (take d text) % 16 ≡ 0 = ap (λ (n : ℕ). n % 16) (length-take-le d text (due-within s.keeps_last (length text))) ∙ due-whole s.keeps_last (length text) in
       record {
         used = ap (λ (k : Bool). due_bytes k (length (text ++ piece)) + t.used) ek ∙ omega (arith, further_count, h.used, length-append text piece);
         kept = sym (further_rest out (take t.used t.kept) size cut) ∙ ap (λ (k : Bool). drop (due_bytes k (length (text ++ piece))) (text ++ piece)) (sym ek);
         vector = λ c. h.vector (ap chains (sym ew) ∙ c);
         chain = λ c.
             let chained : chains s.way ≡ true = ap chains (sym ew) ∙ c in
-            ec chained ∙ sym (next_chain_parts s.way key iv s.chain (take d text) out multiple h.vector chained (h.chain chained))
+            ec chained ∙ sym (next_chain_parts s.way key iv s.chain (take d text) out (whole_front s.keeps_last text) h.vector chained (h.chain chained))
             ∙ ap (next_chain s.way key iv) (sym front)
             ∙ ap₂ (λ (way : Way) (k : Bool). next_chain way key iv (take (due_bytes k (length (text ++ piece))) (text ++ piece))) (sym ew) (sym ek);
       }

@@ -1,9 +1,9 @@
 -- What a cipher in several parts stands for.
-use Rattle.std.specs.Prelude.{◌≡◌, ℕ, ◌+◌, true, false, [], length, is_some, if◌then◌else◌}
+use Rattle.std.specs.Prelude.{◌≡◌, ℕ, ◌+◌, MatchBool, true, false, [], length, is_some, if◌then◌else◌}
 use Rattle.crypto_specs.specs.Prelude.{aes_encrypt, block_number}
 use Rattle.aead_streams.specs.declared.counter_width.CounterWidth.TheVariants.{Whole}
 use Rattle.aead_streams.specs.Streams.{IsAt, IsClearStream}
-use Rattle.store_model.specs.Prelude.{Mode, Ctr, CbcNoPadding, CbcPkcs7, EcbNoPadding, mode_of, CipherWork, bytes_or_empty, takes_text, Operation}
+use Rattle.store_model.specs.Prelude.{Mode, mode_of, CipherWork, bytes_or_empty, takes_text, Operation}
 use Rattle.key_policy.specs.Modes.{model_mode}
 use Rattle.multipart.specs.States.{IsOperation}
 use Rattle.cipher_states.specs.declared.running.RunningCipher.{RunningCipher}
@@ -14,13 +14,9 @@ use Rattle.cipher_states.specs.Texts.{RunsBlocks, IsClearText}
 
 -- the text so far has run under a mode
 abbrev pub RunsMode : Mode → RunningCipher → CipherWork → Type 0
-RunsMode Ctr s w = IsAt s.stream (aes_encrypt w.key) Whole (block_number (bytes_or_empty w.iv)) (length w.text)
-RunsMode CbcNoPadding s w =
-    RunsBlocks s.blocks (way_of CbcNoPadding w.encrypts) (keeps_last CbcNoPadding w.encrypts) w.key (bytes_or_empty w.iv) w.text
-RunsMode CbcPkcs7 s w =
-    RunsBlocks s.blocks (way_of CbcPkcs7 w.encrypts) (keeps_last CbcPkcs7 w.encrypts) w.key (bytes_or_empty w.iv) w.text
-RunsMode EcbNoPadding s w =
-    RunsBlocks s.blocks (way_of EcbNoPadding w.encrypts) (keeps_last EcbNoPadding w.encrypts) w.key (bytes_or_empty w.iv) w.text
+RunsMode mode s w = MatchBool (is_stream mode)
+    (IsAt s.stream (aes_encrypt w.key) Whole (block_number (bytes_or_empty w.iv)) (length w.text))
+    (RunsBlocks s.blocks (way_of mode w.encrypts) (keeps_last mode w.encrypts) w.key (bytes_or_empty w.iv) w.text)
 
 pub record HoldsCipher (s : RunningCipher) (w : CipherWork) : Type 0 where
   pub encrypts : s.encrypts ≡ w.encrypts

@@ -1,21 +1,14 @@
 -- How ECB and CBC make blocks of blocks.
 use Rattle.std.specs.Prelude.{ℕ, Bool, true, false, List, ◌++◌, length, drop, if◌then◌else◌}
 use Rattle.crypto_specs.specs.Prelude.{aes_encrypt, aes_decrypt, cbc_encrypt, cbc_decrypt, ecb_encrypt, ecb_decrypt}
-use Rattle.store_model.specs.Prelude.{Mode, Ctr, CbcNoPadding, CbcPkcs7, EcbNoPadding}
+use Rattle.store_model.specs.Prelude.{Mode, CbcNoPadding, CbcPkcs7}
 use Rattle.cipher_states.specs.declared.ways.Way.{Way}
 use Rattle.cipher_states.specs.declared.ways.Way.TheVariants.{EcbEncrypt, EcbDecrypt, CbcEncrypt, CbcDecrypt}
 
-abbrev pub ecb_way : Bool → Way
-ecb_way encrypts = if encrypts then EcbEncrypt else EcbDecrypt
-
-abbrev pub cbc_way : Bool → Way
-cbc_way encrypts = if encrypts then CbcEncrypt else CbcDecrypt
-
 abbrev pub way_of : Mode → Bool → Way
-way_of CbcNoPadding encrypts = cbc_way encrypts
-way_of CbcPkcs7 encrypts = cbc_way encrypts
-way_of Ctr encrypts = ecb_way encrypts
-way_of EcbNoPadding encrypts = ecb_way encrypts
+way_of CbcNoPadding encrypts = if encrypts then CbcEncrypt else CbcDecrypt
+way_of CbcPkcs7 encrypts = if encrypts then CbcEncrypt else CbcDecrypt
+way_of _ encrypts = if encrypts then EcbEncrypt else EcbDecrypt
 
 -- whether each block depends on those before it
 abbrev pub chains : Way → Bool

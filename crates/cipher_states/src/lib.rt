@@ -7,12 +7,10 @@ ghost use Rattle.multipart.specs.Dues.{DueGrows};
 pub use state::CipherState;
 
 mod block_text;
-mod family;
 mod finishes;
 mod running;
 mod starts;
 mod state;
-mod updates;
 mod ways;
 
 /// More text only adds to the output that is due.

@@ -1,15 +1,21 @@
 // A cipher that runs over a text which comes piece by piece.
 ghost use Rattle.std.specs.Prelude.{◌≡◌, ◌-◌, ◌%◌, ◌≤◌, ℕ, List, IfOk, OnOk, length, true};
+ghost use Rattle.std.specs.Result.{result_err};
 ghost use Rattle.psa_status.specs.Rows.{first_row, unless};
-ghost use Rattle.store_model.specs.Prelude.{total_limit, CipherWork, cipher_finish_rows, cipher_fresh, cipher_update_rows, is_whole_text, last_length, takes_iv, takes_text, with_text, mode_of};
+ghost use Rattle.crypto_specs.specs.Prelude.{IsKey};
+ghost use Rattle.store_model.specs.Prelude.{total_limit, buffer_after, given, reply_unless, CipherWork, cipher_step, cipher_finish_rows, cipher_fresh, cipher_update_rows, is_whole_text, last_length, takes_iv, takes_text, with_text, mode_of};
 ghost use Rattle.key_policy.specs.Modes.{model_mode};
+ghost use Rattle.service_calls.specs.Meanings.{model_cipher_step};
+ghost use Rattle.service_calls.specs.Random.{takes_iv_bytes};
 ghost use Rattle.cipher_states.specs.Modes.{is_stream};
 
 use crate::block_text::BlockText;
 use aead_streams::KeyStream;
 use aes_core::AesKey;
 use key_policy::{Mode, TOTAL_LIMIT, is_ciphertext_length, iv_length, takes_whole_blocks};
+use multipart::{Stepped, Steps};
 use psa_status::Status;
+use service_calls::CipherStep;
 
 /// A text that is enciphered or deciphered piece by piece, and its key. Of the key stream and the blocks the mode uses
 /// one.
@@ -26,13 +32,10 @@ pub struct RunningCipher {
 }
 
 // Whether a mode gives each byte at once.
-pub(crate) fn is_stream(mode: Mode) -> bool
+fn is_stream(mode: Mode) -> bool
     ensures { result ≡ is_stream (model_mode mode) }
 {
-    match mode {
-        Mode::Ctr => true,
-        Mode::CbcNoPadding | Mode::CbcPkcs7 | Mode::EcbNoPadding => false,
-    }
+    matches!(mode, Mode::Ctr)
 }
 
 // The bytes that a finish needs room for.
@@ -128,5 +131,80 @@ impl RunningCipher {
             return Err(Status::BufferTooSmall);
         }
         Ok(needed)
+    }
+
+    // Takes in a piece, and fills a buffer with the output that it makes due.
+    fn take_in(&mut self, input: &[u8], out: &mut [u8])
+        requires key { IsKey self.old.key }
+        requires total { length input.now ≤ total_limit - self.old.total }
+        requires room { length out.old ≡ due_now self.old (length input.now) }
+        ensures key { self.new.key ≡ self.old.key }
+        ensures out { (w : CipherWork) → HoldsCipher self.old w → takes_text w ≡ true →
+            out.new ≡ cipher_fresh w (with_text w input.now) }
+        ensures holds { (w : CipherWork) → HoldsCipher self.old w → takes_text w ≡ true →
+            HoldsCipher self.new (with_text w input.now) }
+    {
+        self.total += input.len();
+        if is_stream(self.mode) {
+            out.copy_from_slice(input);
+            self.stream.xor(&self.key, out);
+        } else {
+            self.blocks.update(&self.key, input, out);
+        }
+    }
+
+    /// Takes in a piece of the text, writes the output that it makes due to the front of a buffer, and answers its
+    /// length. `BadState` where the initialisation vector is missing; `InvalidArgument` where the text would be longer
+    /// than it may be; `BufferTooSmall` where the output has no room.
+    pub(crate) fn update(&mut self, input: &[u8], out: &mut [u8]) -> Result<usize, Status>
+        requires { IsKey self.old.key }
+        ensures key { self.new.key ≡ self.old.key }
+        ensures refusal { (w : CipherWork) → HoldsCipher self.old w →
+            result_err result ≡ first_row (cipher_update_rows w input.now (length out.old)) }
+        ensures length { (w : CipherWork) → HoldsCipher self.old w →
+            IfOk result (λ n. n ≡ length (cipher_fresh w (with_text w input.now))) }
+        ensures within { IfOk result (λ n. n ≤ length out.old) }
+        ensures holds { (w : CipherWork) → HoldsCipher self.old w →
+            OnOk result (HoldsCipher self.new (with_text w input.now)) }
+        ensures buffer { (w : CipherWork) → HoldsCipher self.old w →
+            out.new ≡ buffer_after out.old (reply_unless (first_row (cipher_update_rows w input.now (length out.old)))
+            (given (cipher_fresh w (with_text w input.now)))) }
+    {
+        let due = self.check_update(input.len(), out.len())?;
+        self.take_in(input, &mut out[..due]);
+        Ok(due)
+    }
+}
+
+impl<'a> Steps<CipherStep<'a>> for RunningCipher {
+    ghost use Rattle.cipher_states.specs.States.{HoldsCipher};
+
+    ghost Given = { CipherWork };
+
+    ghost has = { HoldsCipher };
+
+    ghost meaning = { λ random w step room. cipher_step random w (model_cipher_step step room) };
+
+    ghost takes = { takes_iv_bytes };
+
+    fn takes_random(step: &CipherStep<'a>) -> bool {
+        matches!(step, CipherStep::GenerateIv)
+    }
+
+    fn draws(&self, step: &CipherStep<'a>, room: usize) -> usize {
+        match step {
+            CipherStep::GenerateIv => self.iv_draws(room),
+            _ => 0,
+        }
+    }
+
+    #[tactic(auto, using(multipart::proofs::Stepping::going_on, crate::proofs::Finishing::finished))]
+    fn advance(&mut self, step: CipherStep<'a>, random: &[u8; 16], out: &mut [u8]) -> Stepped {
+        match step {
+            CipherStep::GenerateIv => Stepped::giving_bytes(self.generate_iv(random, out)),
+            CipherStep::SetIv(iv) => Stepped::going_on(self.set_iv(iv)),
+            CipherStep::Update(input) => Stepped::giving_bytes(self.update(input, out)),
+            CipherStep::Finish => Stepped::ending_with_bytes(self.finish(out)),
+        }
     }
 }

@@ -1,11 +1,12 @@
 // The start of a text: its key, and its initialisation vector.
-ghost use Rattle.std.specs.Prelude.{◌≡◌, ◌≤◌, ℕ, List, [], IfOk, OnOk, length, true};
+ghost use Rattle.std.specs.Prelude.{◌≡◌, ◌≤◌, ℕ, List, [], IfOk, IsTrue, OnOk, length, true};
 ghost use Rattle.std.specs.Result.{result_err};
 ghost use Rattle.psa_status.specs.Rows.{first_row};
 ghost use Rattle.crypto_specs.specs.Prelude.{IsKey, block_number};
 ghost use Rattle.aead_streams.specs.declared.counter_width.CounterWidth.TheVariants.{Whole};
 ghost use Rattle.aead_streams.specs.Streams.{IsAt};
 ghost use Rattle.store_model.specs.Prelude.{buffer_after, given, reply_unless, CipherGenerateIv, CipherWork, cipher_step, cipher_work, generate_iv_rows, set_iv_rows, takes_iv, with_iv};
+ghost use Rattle.key_policy.specs.Keys.{is_key};
 ghost use Rattle.key_policy.specs.Modes.{model_mode};
 ghost use Rattle.key_policy.specs.Names.{NamesMode};
 ghost use Rattle.cipher_states.specs.States.{HoldsCipher, IsClearRunningCipher};
@@ -17,27 +18,15 @@ use crate::block_text::BlockText;
 use crate::running::RunningCipher;
 use crate::ways::Way;
 use aead_streams::{CounterWidth, KeyStream};
-use aes_core::AesKey;
 use key_policy::{Mode, aes_key};
+use multipart::Work;
 use psa_status::Status;
-
-// A key that is wiped.
-fn no_key() -> AesKey
-    ensures { result ≡ [] }
-{
-    let mut key = aes_key(&[0; 16]);
-    key.wipe();
-    key
-}
 
 // Whether the last block is kept back: it may hold the padding.
 fn keeps_last(mode: Mode, encrypts: bool) -> bool
     ensures { result ≡ keeps_last (model_mode mode) encrypts }
 {
-    match mode {
-        Mode::CbcPkcs7 => !encrypts,
-        Mode::Ctr | Mode::CbcNoPadding | Mode::EcbNoPadding => false,
-    }
+    matches!(mode, Mode::CbcPkcs7) && !encrypts
 }
 
 impl RunningCipher {
@@ -45,25 +34,17 @@ impl RunningCipher {
     pub(crate) fn clear() -> RunningCipher
         ensures { IsClearRunningCipher result }
     {
+        let mut key = aes_key(&[0; 16]);
+        key.wipe();
         RunningCipher {
             encrypts: false,
             mode: Mode::Ctr,
-            key: no_key(),
+            key,
             has_iv: false,
             total: 0,
             stream: KeyStream::clear(),
             blocks: BlockText::clear(),
         }
-    }
-
-    /// Forgets key and text.
-    pub(crate) fn wipe(&mut self)
-        ensures { IsClearRunningCipher self.new }
-    {
-        self.key.wipe();
-        self.total = 0;
-        self.stream.wipe();
-        self.blocks.wipe();
     }
 
     // Begins the text from an initialisation vector.
@@ -163,5 +144,23 @@ impl RunningCipher {
         out[..16].copy_from_slice(random);
         self.take_iv(random);
         Ok(16)
+    }
+}
+
+impl Work for RunningCipher {
+    ghost Said = { CipherWork };
+
+    ghost is_clear = { IsClearRunningCipher };
+
+    ghost holds = { HoldsCipher };
+
+    ghost runs = { λ s. IsTrue (is_key s.key) };
+
+    // Forgets key and text.
+    fn forget(&mut self) {
+        self.key.wipe();
+        self.total = 0;
+        self.stream.wipe();
+        self.blocks.wipe();
     }
 }

@@ -2,17 +2,22 @@
 ghost use Rattle.std.specs.Prelude.{◌≡◌, IsTrue, true, false};
 ghost use Rattle.crypto_specs.specs.Prelude.{IsKey};
 ghost use Rattle.service_calls.specs.Answers.{plain_reply};
-ghost use Rattle.store_model.specs.Prelude.{Operation, Inactive, is_inactive, CipherWork};
+ghost use Rattle.service_calls.specs.Meanings.{model_cipher_step};
+ghost use Rattle.service_calls.specs.Random.{takes_iv_bytes};
+ghost use Rattle.store_model.specs.Prelude.{Operation, Inactive, is_inactive, CipherWork, cipher_step, refusal};
+ghost use Rattle.multipart.specs.Turns.{is_active, loses_key};
 ghost use Rattle.multipart.specs.declared.Phase.TheVariants as phases;
 ghost use Rattle.alg_encoding.specs.declared.table.Class.TheVariants.{Cipher};
 ghost use Rattle.key_policy.specs.Names.{IsOfClass};
 ghost use Rattle.key_policy.specs.Keys.{is_key};
+ghost use Rattle.cipher_states.specs.Setups.{cipher_setup};
 
 use crate::running::RunningCipher;
 use alg_encoding::Alg;
 use key_policy::cipher_algorithm;
-use multipart::{OperationState, Phase};
+use multipart::{Family, OperationState, Phase, Steps};
 use psa_status::Status;
+use service_calls::{CipherStep, Output};
 
 /// A cipher in several parts: a setup with a key, the initialisation vector where the mode has one, any number of
 /// updates, and a finish.
@@ -24,8 +29,6 @@ pub struct CipherState {
 
 impl CipherState {
     ghost use Rattle.cipher_states.specs.States.{IsCipherOperation, IsClearCipher};
-    ghost use Rattle.multipart.specs.Turns.{is_active};
-    ghost use Rattle.cipher_states.specs.Setups.{cipher_setup};
 
     /// An inactive operation.
     pub fn new() -> CipherState
@@ -95,5 +98,41 @@ impl CipherState {
             plain_reply result ≡ (cipher_setup op false alg.0 key.now).reply }
     {
         self.setup(false, key, alg)
+    }
+}
+
+impl<'a> Family<CipherStep<'a>> for CipherState {
+    ghost use Rattle.cipher_states.specs.States.{IsCipherOperation};
+
+    ghost Work = { CipherWork };
+
+    ghost stands = { IsCipherOperation };
+
+    ghost meaning = { λ random w step room. cipher_step random w (model_cipher_step step room) };
+
+    ghost takes = { takes_iv_bytes };
+
+    fn lose_key(&mut self) -> Status
+        ensures state { (own : Operation CipherWork) → IsCipherOperation self.old own → IsCipherOperation self.new (loses_key own).operation }
+        ensures reply { (own : Operation CipherWork) → IsCipherOperation self.old own → refusal result ≡ (loses_key own).reply }
+    {
+        self.state.lose_key()
+    }
+
+    fn takes_random(step: &CipherStep<'a>) -> bool {
+        RunningCipher::takes_random(step)
+    }
+
+    fn draws(&self, step: &CipherStep<'a>, room: usize) -> usize {
+        self.state.draws(step, room)
+    }
+
+    fn step(
+        &mut self,
+        step: CipherStep<'a>,
+        random: &[u8; 16],
+        out: &mut [u8],
+    ) -> Result<Output, Status> {
+        self.state.step(step, random, out)
     }
 }

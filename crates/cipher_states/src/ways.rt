@@ -2,7 +2,7 @@
 ghost use Rattle.std.specs.Prelude.{◌≡◌, ◌%◌, ◌++◌, true, length, drop};
 ghost use Rattle.crypto_specs.specs.Prelude.{IsKey};
 ghost use Rattle.key_policy.specs.Modes.{model_mode};
-ghost use Rattle.cipher_states.specs.Ways.{cbc_way, chains, ecb_way, next_chain, processed, way_of};
+ghost use Rattle.cipher_states.specs.Ways.{chains, next_chain, processed, way_of};
 
 use aes_core::AesKey;
 use cipher_modes::{cbc_decrypt, cbc_encrypt, ecb_decrypt, ecb_encrypt};
@@ -22,29 +22,11 @@ impl Way {
     pub fn of(mode: Mode, encrypts: bool) -> Way
         ensures { result ≡ way_of (model_mode mode) encrypts }
     {
-        match mode {
-            Mode::CbcNoPadding | Mode::CbcPkcs7 => Way::of_cbc(encrypts),
-            Mode::Ctr | Mode::EcbNoPadding => Way::of_ecb(encrypts),
-        }
-    }
-
-    fn of_cbc(encrypts: bool) -> Way
-        ensures { result ≡ cbc_way encrypts }
-    {
-        if encrypts {
-            Way::CbcEncrypt
-        } else {
-            Way::CbcDecrypt
-        }
-    }
-
-    fn of_ecb(encrypts: bool) -> Way
-        ensures { result ≡ ecb_way encrypts }
-    {
-        if encrypts {
-            Way::EcbEncrypt
-        } else {
-            Way::EcbDecrypt
+        match (mode, encrypts) {
+            (Mode::CbcNoPadding | Mode::CbcPkcs7, true) => Way::CbcEncrypt,
+            (Mode::CbcNoPadding | Mode::CbcPkcs7, false) => Way::CbcDecrypt,
+            (Mode::Ctr | Mode::EcbNoPadding, true) => Way::EcbEncrypt,
+            (Mode::Ctr | Mode::EcbNoPadding, false) => Way::EcbDecrypt,
         }
     }
 

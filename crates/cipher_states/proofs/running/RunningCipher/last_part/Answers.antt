@@ -1,5 +1,5 @@
-use Rattle.std.proofs.Common.{Bool, List, ap, cond, length, refl, subst, sym, ℕ, ◌<◌, ◌∙◌, ◌≡◌}
-use Rattle.cipher_states.proofs.Common.{After, AnswersOrSpoils, CipherWork, GivesBytes, InError, Inactive, buffer_after, last_length, model_mode, pkcs7_unpadded}
+use Rattle.std.proofs.Common.{Bool, List, ap, cond, length, refl, rules, subst, sym, true, ℕ, ◌<◌, ◌∙◌, ◌≡◌}
+use Rattle.cipher_states.proofs.Common.{After, AnswersOrSpoils, CipherWork, GivesBytes, HoldsCipher, InError, Inactive, buffer_after, is_whole_text, last_length, model_mode, pkcs7_unpadded, takes_text}
 use Rattle.std.proofs.lemmas.Bool.{eqb-true}
 use Rattle.cipher_states.proofs.LastParts.{unpadded_end}
 use Rattle.cipher_states.proofs.Finishing.{not_none, room_is, block_buffer, ends_bare, part_kept, ends_padded, block_kept, ends_unpadded}
@@ -10,40 +10,32 @@ returns-then-is_empty-clause-buffer c = λ w h ready whole.
     let none : last_length (model_mode c.args.self.now.mode) ≡ 0 = sym c.requires.room ∙ eqb-true (length c.args.out.now) 0 (sym c.is_empty.ensures ∙ c.if-is_empty.true) in
     ap (λ (a : After CipherWork). buffer_after c.args.out.now a.reply) (sym (ends_bare c.args.self.now w h ready none whole))
 
-pub returns-then-self-clause-reply : goal.returns-then-self-clause-reply
-returns-then-self-clause-reply c = λ w h ready whole.
+pub returns-then-self : goal.returns-then-self
+returns-then-self c =
     let s = c.args.self.now in
     let padded = subst (λ (n : ℕ). 0 < n) c.requires.room (not_none (length c.args.out.now) (sym c.is_empty.ensures ∙ c.if-is_empty.false)) in
-    let same = c.copy_from_slice.ensures.after ∙ c.padded.ensures (part_kept s w h ready padded c.if-self.true) in
-    let end = ends_padded s w h ready padded c.if-self.true in
-    subst (λ (a : After CipherWork). GivesBytes 16 a.reply) (sym end) (refl, sym (ap length (sym same) ∙ c.copy_from_slice.ensures.len ∙ c.requires.room ∙ room_is s w h ready padded), refl)
+    let room = c.requires.room ∙ room_is s padded in
+    let same = λ (w : CipherWork) (h : HoldsCipher s w) (ready : takes_text w ≡ true). c.copy_from_slice.ensures.after ∙ c.padded.ensures (part_kept s w h ready padded c.if-self.true) in
+    record {
+      within = search rules;
+      reply = λ w h ready whole.
+          subst (λ (a : After CipherWork). GivesBytes 16 a.reply) (sym (ends_padded s w h ready padded c.if-self.true))
+          (refl, sym (ap length (sym (same w h ready)) ∙ c.copy_from_slice.ensures.len ∙ room), refl);
+      buffer = λ w h ready whole.
+          same w h ready ∙ block_buffer _ c.args.out.now (ap length (sym (same w h ready)) ∙ c.copy_from_slice.ensures.len ∙ room) room
+          ∙ ap (λ (a : After CipherWork). buffer_after c.args.out.now a.reply) (sym (ends_padded s w h ready padded c.if-self.true));
+      operation = λ w h ready whole. ap (λ (a : After CipherWork). a.operation) (ends_padded s w h ready padded c.if-self.true);
+    }
 
-pub returns-then-self-clause-buffer : goal.returns-then-self-clause-buffer
-returns-then-self-clause-buffer c = λ w h ready whole.
+pub returns-else-self : goal.returns-else-self
+returns-else-self c =
     let s = c.args.self.now in
     let padded = subst (λ (n : ℕ). 0 < n) c.requires.room (not_none (length c.args.out.now) (sym c.is_empty.ensures ∙ c.if-is_empty.false)) in
-    let same = c.copy_from_slice.ensures.after ∙ c.padded.ensures (part_kept s w h ready padded c.if-self.true) in
-    let room = c.requires.room ∙ room_is s w h ready padded in
-    same ∙ block_buffer _ c.args.out.now (ap length (sym same) ∙ c.copy_from_slice.ensures.len ∙ room) room
-    ∙ ap (λ (a : After CipherWork). buffer_after c.args.out.now a.reply) (sym (ends_padded s w h ready padded c.if-self.true))
-
-pub returns-else-self-clause-reply : goal.returns-else-self-clause-reply
-returns-else-self-clause-reply c = λ w h ready whole.
-    let s = c.args.self.now in
-    let padded = subst (λ (n : ℕ). 0 < n) c.requires.room (not_none (length c.args.out.now) (sym c.is_empty.ensures ∙ c.if-is_empty.false)) in
-    let end = ends_unpadded s w h ready padded c.if-self.false whole ∙ ap (λ (l : List ℕ). unpadded_end (pkcs7_unpadded l)) (sym (c.last.ensures (block_kept s w h ready padded c.if-self.false whole))) in
-    subst (λ (a : After CipherWork). AnswersOrSpoils c.put_unpadded.result a.reply) (sym end) c.put_unpadded.ensures.reply
-
-pub returns-else-self-clause-buffer : goal.returns-else-self-clause-buffer
-returns-else-self-clause-buffer c = λ w h ready whole.
-    let s = c.args.self.now in
-    let padded = subst (λ (n : ℕ). 0 < n) c.requires.room (not_none (length c.args.out.now) (sym c.is_empty.ensures ∙ c.if-is_empty.false)) in
-    let end = ends_unpadded s w h ready padded c.if-self.false whole ∙ ap (λ (l : List ℕ). unpadded_end (pkcs7_unpadded l)) (sym (c.last.ensures (block_kept s w h ready padded c.if-self.false whole))) in
-    c.put_unpadded.ensures.buffer ∙ ap (λ (a : After CipherWork). buffer_after c.args.out.now a.reply) (sym end)
-
-pub returns-else-self-clause-operation : goal.returns-else-self-clause-operation
-returns-else-self-clause-operation c = λ w h ready whole.
-    let s = c.args.self.now in
-    let padded = subst (λ (n : ℕ). 0 < n) c.requires.room (not_none (length c.args.out.now) (sym c.is_empty.ensures ∙ c.if-is_empty.false)) in
-    let end = ends_unpadded s w h ready padded c.if-self.false whole ∙ ap (λ (l : List ℕ). unpadded_end (pkcs7_unpadded l)) (sym (c.last.ensures (block_kept s w h ready padded c.if-self.false whole))) in
-    ap (λ (a : After CipherWork). a.operation) end ∙ ap (λ (b : Bool). cond b Inactive InError) (sym c.put_unpadded.ensures.padding)
+    let end = λ (w : CipherWork) (h : HoldsCipher s w) (ready : takes_text w ≡ true) (whole : is_whole_text w ≡ true).
+    ends_unpadded s w h ready padded c.if-self.false whole ∙ ap (λ (l : List ℕ). unpadded_end (pkcs7_unpadded l)) (sym (c.last.ensures (block_kept s w h ready padded c.if-self.false whole))) in
+    record {
+      within = search rules;
+      reply = λ w h ready whole. subst (λ (a : After CipherWork). AnswersOrSpoils c.put_unpadded.result a.reply) (sym (end w h ready whole)) c.put_unpadded.ensures.reply;
+      buffer = λ w h ready whole. c.put_unpadded.ensures.buffer ∙ ap (λ (a : After CipherWork). buffer_after c.args.out.now a.reply) (sym (end w h ready whole));
+      operation = λ w h ready whole. ap (λ (a : After CipherWork). a.operation) (end w h ready whole) ∙ ap (λ (b : Bool). cond b Inactive InError) (sym c.put_unpadded.ensures.padding);
+    }

@@ -37,5 +37,5 @@ returns-else-is_stream-clause-holds c = λ w h ready.
       vector = h.vector;
       total = ap (λ (n : ℕ). n + length input) h.total ∙ sym (length-append w.text input);
       before = λ f. cc;
-      text = λ f. by_blocks (mode_of w.alg) _ (with_text w input) (ap is_stream (sym h.mode) ∙ e) runs;
+      text = λ f. by_blocks (mode_of w.alg) s.stream c.update.new.self (with_text w input) (ap is_stream (sym h.mode) ∙ e) runs;
     }

@@ -15,5 +15,5 @@ returns-clause-holds c = λ w h e.
       vector = refl;
       total = b.total ∙ h.total;
       before = λ f. cc;
-      text = λ f. begun_work (model_mode c.args.self.now.mode) c.args.self.now.encrypts _ (with_iv w iv) iv h.mode h.encrypts empty (λ g. refl) (λ g. refl) b.stream b.blocks;
+      text = λ f. begun_work (model_mode c.args.self.now.mode) c.args.self.now.encrypts c.begin_text.new.self (with_iv w iv) iv h.mode h.encrypts empty (λ g. refl) (λ g. refl) b.stream b.blocks;
     }

@@ -1,7 +1,7 @@
 use Rattle.std.proofs.Common.{subst, sym, ◌≡◌}
 use Rattle.cipher_states.proofs.Common.{cipher_step}
 use Rattle.service_calls.specs.Meanings.{model_cipher_step}
-use Rattle.cipher_states.proofs.family.RunningCipherStepsCipherStep.draws.Goals as goal
+use Rattle.cipher_states.proofs.running.RunningCipherStepsCipherStep.draws.Goals as goal
 
 pub returns-in-GenerateIv-clause-drawn : goal.returns-in-GenerateIv-clause-drawn
 returns-in-GenerateIv-clause-drawn c = λ r w h.
