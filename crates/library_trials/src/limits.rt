@@ -1,0 +1,186 @@
+// The calls of a client that are refused or fail, and others beside them.
+ghost use Rattle.std.specs.Prelude.{◌≡◌};
+
+use admission::Admission;
+use alg_encoding::Alg;
+use caller_service::Client;
+use callers::NoGate;
+use disk_face::Disk;
+use driver_dispatch::Devices;
+use key_attributes::{Attributes, KeyId, KeyType, Lifetime, Policy, Usage};
+use psa_status::Status;
+use service_calls::Op;
+use std::alloc::{AllocError, Global};
+use std::sync::Wait;
+
+/// What all calls of the trial count together, with none to spare.
+pub const BUDGET: u64 = 14;
+
+const SHA_256: u32 = 0x0200_0009;
+
+const CMAC: u32 = 0x03c0_0200;
+
+const GCM: u32 = 0x0550_0200;
+
+const CBC_PKCS7: u32 = 0x0440_4100;
+
+const SIGN: u32 = 0x400;
+
+const DECRYPT: u32 = 0x200;
+
+const VOLATILE: u32 = 0;
+
+const OF_THE_ELEMENT: u32 = 0x100;
+
+/// Key and message of SP 800-38B, section D.1, example 2.
+const KEY: [u8; 16] = [
+    0x2b, 0x7e, 0x15, 0x16, 0x28, 0xae, 0xd2, 0xa6, 0xab, 0xf7, 0x15, 0x88, 0x09, 0xcf, 0x4f, 0x3c,
+];
+
+const MESSAGE: [u8; 16] = [
+    0x6b, 0xc1, 0xbe, 0xe2, 0x2e, 0x40, 0x9f, 0x96, 0xe9, 0x3d, 0x7e, 0x11, 0x73, 0x93, 0x17, 0x2a,
+];
+
+/// The sealed text of GCM's specification by McGrew and Viega, test case 2.
+const SEALED: [u8; 32] = [
+    0x03, 0x88, 0xda, 0xce, 0x60, 0xb6, 0xa3, 0x92, 0xf3, 0x28, 0xc2, 0xb9, 0x71, 0xb2, 0xfe, 0x78,
+    0xab, 0x6e, 0x47, 0xd4, 0x2c, 0xec, 0x13, 0xbd, 0xf5, 0x3a, 0x67, 0xb2, 0x12, 0x57, 0xbd, 0xdf,
+];
+
+/// Made by OpenSSL of "Fourteen bytes": an initialisation vector, and a block.
+const ENCIPHERED: [u8; 32] = [
+    0x61, 0x6e, 0x20, 0x49, 0x56, 0x20, 0x69, 0x73, 0x20, 0x61, 0x20, 0x62, 0x6c, 0x6f, 0x63, 0x6b,
+    0x67, 0x54, 0xf7, 0x54, 0xf2, 0x92, 0xd8, 0x5b, 0xbd, 0x0d, 0x9b, 0x4a, 0xab, 0x99, 0x89, 0x3b,
+];
+
+// Adds a line: how many bytes a call gave, or its status, and all of its buffer.
+fn tell(
+    alloc: Global,
+    page: &mut String,
+    given: Result<usize, Status>,
+    buffer: &[u8],
+) -> Result<(), AllocError> {
+    let bytes = hex::encode(alloc, buffer)?;
+    let line = match given {
+        Ok(count) => format!(in alloc; "{count} {bytes}\n")?,
+        Err(status) => {
+            let name = status.name();
+            format!(in alloc; "{name} {bytes}\n")?
+        }
+    };
+    page.push_str(&line)
+}
+
+// Makes an AES key. The answer is 0 where that fails.
+fn import<D: Disk, A: Devices, C: Admission, R: Wait>(
+    client: &mut Client<'_, D, A, C, NoGate, R>,
+    lifetime: u32,
+    usage: u32,
+    alg: u32,
+    bytes: &[u8],
+) -> KeyId
+    ensures { client.new.service.now ≡ client.old.service.now }
+{
+    let attributes = Attributes {
+        lifetime: Lifetime(lifetime),
+        id: KeyId(0),
+        key_type: KeyType::AES,
+        bits: 0,
+        policy: Policy {
+            usage: Usage(usage),
+            alg,
+        },
+    };
+    client
+        .import_key(&attributes, bytes)
+        .result
+        .unwrap_or(KeyId(0))
+}
+
+// Computes a MAC into buffers of 15 and of 17 bytes.
+fn compute_macs<D: Disk, A: Devices, C: Admission, R: Wait>(
+    client: &mut Client<'_, D, A, C, NoGate, R>,
+    alloc: Global,
+    page: &mut String,
+    key: KeyId,
+    message: &[u8],
+) -> Result<(), AllocError>
+    ensures { client.new.service.now ≡ client.old.service.now }
+{
+    let mut short = [7; 15];
+    let refused = client.mac_compute(key, Alg(CMAC), message, &mut short);
+    tell(alloc, page, refused.result, &short)?;
+    let mut long = [7; 17];
+    let computed = client.mac_compute(key, Alg(CMAC), message, &mut long);
+    tell(alloc, page, computed.result, &long)
+}
+
+// Opens a sealed text with other associated data.
+fn open_sealed<D: Disk, A: Devices, C: Admission, R: Wait>(
+    client: &mut Client<'_, D, A, C, NoGate, R>,
+    alloc: Global,
+    page: &mut String,
+) -> Result<(), AllocError>
+    ensures { client.new.service.now ≡ client.old.service.now }
+{
+    let key = import(client, VOLATILE, DECRYPT, GCM, &[0; 16]);
+    let mut text = [7; 17];
+    let opened = client.aead_decrypt(key, Alg(GCM), &[0; 12], b"a", &SEALED, &mut text);
+    tell(alloc, page, opened.result, &text)
+}
+
+// Deciphers a text, whose padding is then broken.
+fn decipher<D: Disk, A: Devices, C: Admission, R: Wait>(
+    client: &mut Client<'_, D, A, C, NoGate, R>,
+    alloc: Global,
+    page: &mut String,
+) -> Result<(), AllocError>
+    ensures { client.new.service.now ≡ client.old.service.now }
+{
+    let key = import(client, VOLATILE, DECRYPT, CBC_PKCS7, b"an AES key of 16");
+    let mut input = ENCIPHERED;
+    let mut text = [7; 17];
+    let whole = client.cipher_decrypt(key, Alg(CBC_PKCS7), &input, &mut text);
+    tell(alloc, page, whole.result, &text)?;
+    input[15] ^= 1;
+    let mut text = [7; 17];
+    let broken = client.cipher_decrypt(key, Alg(CBC_PKCS7), &input, &mut text);
+    tell(alloc, page, broken.result, &text)
+}
+
+// Uses the budget up within a hash, and ends that: an abort is never refused.
+fn wear<D: Disk, A: Devices, C: Admission, R: Wait>(
+    client: &mut Client<'_, D, A, C, NoGate, R>,
+    alloc: Global,
+    page: &mut String,
+) -> Result<(), AllocError>
+    ensures { client.new.service.now ≡ client.old.service.now }
+{
+    let op = Op::first();
+    let _ = client.hash_setup(op, Alg(SHA_256));
+    let _ = client.hash_update(op, b"abc");
+    let mut hash = [7; 32];
+    let finished = client.hash_finish(op, &mut hash);
+    tell(alloc, page, finished.result, &hash)?;
+    let ranked = finished.rank.is_some();
+    let ended = client.abort(op).rank.is_some();
+    let spent = client.caller().spent();
+    page.push_str(&format!(in alloc; "ranked {ranked}, ended {ended}, counted {spent}\n")?)
+}
+
+/// Makes the calls.
+pub fn try_limits<D: Disk, A: Devices, C: Admission, R: Wait>(
+    client: &mut Client<'_, D, A, C, NoGate, R>,
+    alloc: Global,
+    page: &mut String,
+) -> Result<(), AllocError>
+    ensures { client.new.service.now ≡ client.old.service.now }
+{
+    let key = import(client, VOLATILE, SIGN, CMAC, &KEY);
+    compute_macs(client, alloc, page, key, &MESSAGE)?;
+    open_sealed(client, alloc, page)?;
+    decipher(client, alloc, page)?;
+    let key = import(client, OF_THE_ELEMENT, SIGN, CMAC, &[0; 16]);
+    compute_macs(client, alloc, page, key, b"")?;
+    wear(client, alloc, page)
+}
