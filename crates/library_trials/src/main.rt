@@ -5,13 +5,16 @@
 
 mod limits;
 
-ghost use Rattle.std.specs.Prelude.{◌≡◌, ◌≤◌, All, Some};
+ghost use Rattle.std.specs.Prelude.{◌≡◌, ◌≤◌, All, Some, length};
 ghost use Rattle.driver_dispatch.specs.Held.{no_keys};
+ghost use Rattle.callers.specs.Ready.{IsReady};
+ghost use Rattle.locked_store.specs.Prelude.{world};
+ghost use Rattle.caller_service.specs.Staff.{AreStaff};
 
 use crate::limits::{BUDGET, try_limits};
 use admission::{Admission, Rules};
 use caller_service::{Closed, Service};
-use callers::NoGate;
+use callers::{Caller, NoGate};
 use disk_face::{Disk, Fails, MemoryDisk};
 use driver_dispatch::{Devices, Driver, Drivers};
 use soft_driver::SoftDriver;
@@ -20,7 +23,25 @@ use std::io;
 use std::process::ExitCode;
 use std::sync::Wait;
 
-// Opens a service, makes the calls by one of its callers, and closes it. The answer is what to print.
+// Makes the calls by one of the callers.
+fn make_calls<D: Disk, A: Devices, C: Admission, R: Wait>(
+    rt: &R,
+    alloc: Global,
+    service: &Service<D, A, C, NoGate>,
+    callers: &mut Vec<Caller<D, A, C>>,
+    page: &mut String,
+) -> Result<(), AllocError>
+    requires staff { AreStaff (world service.now.shared) callers.old.items }
+    ensures sixteen { length callers.new.items ≡ 16 }
+    ensures ready { All (IsReady (world service.now.shared) 0) callers.new.items }
+{
+    let mut client = service.client(rt, callers.pop().unwrap());
+    let told = try_limits(&mut client, alloc, page);
+    callers.push_reserved(client.into_caller());
+    told
+}
+
+// Opens a service, makes the calls, and closes it. The answer is what to print.
 fn run_limits<D: Disk + Drop, A: Devices, C: Admission, R: Wait>(
     rt: &R,
     alloc: Global,
@@ -34,10 +55,8 @@ fn run_limits<D: Disk + Drop, A: Devices, C: Admission, R: Wait>(
     let Ok((service, mut callers)) = opened else {
         return Err(AllocError);
     };
-    let mut client = service.client(rt, callers.pop().unwrap());
     let mut page = String::new(alloc);
-    let told = try_limits(&mut client, alloc, &mut page);
-    callers.push_reserved(client.into_caller());
+    let told = make_calls(rt, alloc, &service, &mut callers, &mut page);
     let Closed {
         disk: _disk,
         devices: _devices,
