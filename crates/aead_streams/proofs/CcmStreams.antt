@@ -1,5 +1,5 @@
 -- The stream of CCM is a key stream, as far as its counters go.
-use Rattle.aead_streams.proofs.Common.{AreBytes, KeepsLength, List, Whole, ap, ap₂, arith, block_count, block_number, block_of_number, byte_at_is, bytes-append, bytes_high_first, ccm_counter_block, ccm_stream, ccm_text, div-add-mod', div-mul-add, drop, drop_at, in_bytes, length, length-append, length-bytes_high_first, mod-eq_of_lt, mod-mul-add, number_block, pow-le-pow_right, power_of_256, refl, stream_block, subst, suc, sym, take, take_at, text_xor, zero, ℕ, ◌%◌, ◌*◌, ◌++◌, ◌+◌, ◌-◌, ◌/◌, ◌<◌, ◌^◌, ◌∙◌, ◌∷◌, ◌≡◌, ◌≤◌}
+use Rattle.aead_streams.proofs.Common.{KeepsLength, List, Whole, ap, ap₂, arith, block_count, bytes_high_first, ccm_counter_block, ccm_stream, ccm_text, div-add-mod', div-mul-add, drop, drop_at, in_bytes, length, length-bytes_high_first, mod-eq_of_lt, mod-mul-add, number_block, refl, stream_block, sym, take, take_at, text_xor, ℕ, ◌%◌, ◌*◌, ◌++◌, ◌+◌, ◌-◌, ◌/◌, ◌<◌, ◌^◌, ◌∙◌, ◌∷◌, ◌≡◌, ◌≤◌}
 use Rattle.aead_ccm.proofs.KeyStream.{blocks_fit}
 use Rattle.aead_streams.proofs.HighFirst.{high_and_low, same_bytes, same_remainder}
 use Rattle.aead_streams.proofs.ModeStreams.{text_is}

@@ -1,6 +1,6 @@
 -- A text that begins.
-use Rattle.std.proofs.Common.{Bool, List, [], false, inl, inr, length, not, refl, subst, sym, true, ℕ, ◌&&◌, ◌==◌, ◌||◌, ◌∙◌, ◌≡◌}
-use Rattle.cipher_states.proofs.Common.{CbcNoPadding, CbcPkcs7, CipherWork, Ctr, EcbNoPadding, IsAt, Mode, RunningCipher, RunsBlocks, RunsMode, Whole, aes_encrypt, block_number, bytes_or_empty, chains, is_stream, iv_length, keeps_last, mode_of, way_of}
+use Rattle.std.proofs.Common.{Bool, List, [], false, inl, inr, length, not, subst, sym, true, ℕ, ◌&&◌, ◌==◌, ◌||◌, ◌∙◌, ◌≡◌}
+use Rattle.cipher_states.proofs.Common.{CipherWork, Ctr, EcbNoPadding, IsAt, Mode, RunningCipher, RunsBlocks, RunsMode, Whole, aes_encrypt, block_number, bytes_or_empty, chains, is_stream, iv_length, keeps_last, mode_of, way_of}
 use Rattle.cipher_states.proofs.RunningTexts.{by_stream, by_blocks}
 use Rattle.std.proofs.Math.Bool.{or-false}
 use Rattle.std.proofs.lemmas.Bool.{cases_Bool, not-true}

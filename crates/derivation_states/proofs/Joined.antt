@@ -1,5 +1,5 @@
 -- Blocks joined, of one length and of any.
-use Rattle.std.proofs.Common.{List, [], ap, append_assoc, ap₂, arith, drop, get_or, length, min, refl, suc, sym, take, zero, ℕ, ◌*◌, ◌++◌, ◌+◌, ◌<◌, ◌∙◌, ◌∷◌, ◌≡◌, ◌≤◌}
+use Rattle.std.proofs.Common.{List, [], ap, append_assoc, ap₂, arith, drop, get_or, length, min, suc, sym, take, zero, ℕ, ◌*◌, ◌++◌, ◌+◌, ◌<◌, ◌∙◌, ◌∷◌, ◌≡◌, ◌≤◌}
 use Rattle.derivation_states.proofs.Common.{drop-take, take-append-le, take_min}
 use Rattle.std.proofs.Math.Nat.{mul-suc}
 use Rattle.std.proofs.Math.Seq.{drop-append-add, drop-cons}

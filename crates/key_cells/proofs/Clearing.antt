@@ -1,5 +1,5 @@
 -- How cells are made zeros that are left over from a crash.
-use Rattle.key_cells.proofs.Common.{Absent, Clearing, ClearsOn, Content, Doubtful, Elapses, Follows, Free, HoldsAround, HoldsWritten, IsSettled, LeavesWhatIsRead, List, None, Open, Option, Present, Shows, Shut, Slot, Some, Sound, SoundBy, Spares, StandsForContents, Torn, Unsure, Within, ap, arith, body, cases_eq, cell_slot, cells, closed, drop, ext_get_or, gate, get_or, get_or-map, get_or-set_other, get_or-set_same, is_some, length, length-map, part, place, refl, replicate, set, settled_slot, settled_slots, subst, sym, take, within_both, within_one, written, written_torn, zeros, ℕ, ⊎_elim, ◌+◌, ◌<◌, ◌∙◌, ◌≡◌}
+use Rattle.key_cells.proofs.Common.{Absent, Clearing, ClearsOn, Content, Doubtful, Elapses, Follows, Free, HoldsAround, HoldsWritten, IsSettled, LeavesWhatIsRead, List, None, Open, Option, Shows, Shut, Slot, Some, Sound, SoundBy, Spares, StandsForContents, Torn, Unsure, Within, ap, arith, body, cases_eq, cell_slot, cells, closed, drop, ext_get_or, gate, get_or, get_or-map, get_or-set_other, get_or-set_same, is_some, length, length-map, part, place, refl, replicate, set, settled_slot, settled_slots, subst, sym, take, within_both, within_one, written, written_torn, zeros, ℕ, ⊎_elim, ◌+◌, ◌<◌, ◌∙◌, ◌≡◌}
 use Rattle.disk_face.specs.declared.Disk as Disk
 use Rattle.key_cells.proofs.Parts.{part_written}
 use Rattle.key_cells.proofs.Images.{sound_after, same_all, same_slots}

@@ -1,5 +1,5 @@
 -- What calls make of the directory.
-use Rattle.persistent_keys.proofs.Common.{Free, IsFirstWithoutKey, IsFull, IsSure, List, Open, Shut, Slot, Unsure, [], ap, arith, cell_slot, false, get_or-map, has_id, is_open, length, length-map, map-set, refl, set, settled_open, settled_slot, settled_slots, suc, sym, true, ℕ, ◌<◌, ◌∙◌, ◌∷◌, ◌≡◌}
+use Rattle.persistent_keys.proofs.Common.{Free, IsFirstWithoutKey, IsFull, IsSure, List, Open, Slot, Unsure, [], ap, arith, cell_slot, false, get_or-map, has_id, is_open, length, length-map, map-set, refl, set, settled_open, settled_slot, settled_slots, suc, sym, true, ℕ, ◌<◌, ◌∙◌, ◌∷◌, ◌≡◌}
 use Rattle.std.proofs.lemmas.Bool.{eqb-true}
 use Rattle.persistent_keys.proofs.Filing.{settled_twice}
 

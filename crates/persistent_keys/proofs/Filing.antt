@@ -1,5 +1,5 @@
 -- A filed store after a change of its cells.
-use Rattle.persistent_keys.proofs.Common.{Absent, Attributes, Content, Doubt, Doubtful, Free, HoldsId, HoldsKey, IsDoubted, IsDoubtedIn, IsFiled, IsOf, IsPut, Keys, List, None, Open, Option, Present, Shut, Slot, Some, Stored, TellsCell, Unsure, [], ap, arith, cases_eq, cell_slot, cond, content_at, eq-eqb, false, get_or-map, get_or-set_other, get_or-set_same, has_id, is_open, length, length-map, length-set, ne_eqb, of_one_key, refl, set, settled, settled_alike, settled_content, settled_open, settled_slot, settled_slots, stored, subst, sym, true, ℕ, ⊎_elim, ◌<◌, ◌∙◌, ◌∷◌, ◌≡◌, ◌≢◌}
+use Rattle.persistent_keys.proofs.Common.{Absent, Attributes, Content, Doubt, Doubtful, Free, HoldsId, HoldsKey, IsDoubted, IsDoubtedIn, IsFiled, IsOf, IsPut, Keys, List, None, Open, Option, Present, Slot, Some, Stored, TellsCell, [], ap, arith, cases_eq, cell_slot, cond, content_at, eq-eqb, false, get_or-map, get_or-set_other, get_or-set_same, has_id, is_open, length, length-set, ne_eqb, of_one_key, refl, set, settled, settled_alike, settled_content, settled_open, settled_slot, settled_slots, stored, subst, sym, true, ℕ, ⊎_elim, ◌<◌, ◌∙◌, ◌∷◌, ◌≡◌, ◌≢◌}
 use Rattle.key_cells.proofs.Counts.{count_same}
 use Rattle.persistent_keys.proofs.Fitting.{tells_open}
 

@@ -1,5 +1,5 @@
 -- An image that fits the contents of a filed store has its keys, and maybe some that are in doubt.
-use Rattle.persistent_keys.proofs.Common.{Absent, Attributes, Content, Doubt, Doubtful, FitsCell, FitsKeys, Free, HasKey, HoldsKey, IsDamaged, IsDoubted, IsFiled, IsOf, Keys, List, Open, Present, Shut, Slot, Some, Stored, TellsCell, Unsure, ap, arith, body, cell_slot, content_at, gate, has_id, inl, inr, length, of_one_key, opened_gate, refl, stored, subst, sym, true, ℕ, ⊎_elim, ◌<◌, ◌∙◌, ◌≡◌, ◌⊎◌}
+use Rattle.persistent_keys.proofs.Common.{Absent, Attributes, Content, Doubt, Doubtful, FitsCell, FitsKeys, HasKey, HoldsKey, IsDamaged, IsDoubted, IsFiled, IsOf, Keys, List, Open, Present, Slot, Some, Stored, TellsCell, ap, arith, body, cell_slot, content_at, gate, has_id, inl, inr, length, of_one_key, opened_gate, refl, stored, subst, sym, true, ℕ, ⊎_elim, ◌<◌, ◌∙◌, ◌≡◌, ◌⊎◌}
 use Rattle.std.proofs.lemmas.Bool.{eqb-true}
 use Rattle.key_cells.specs.Prelude.{Fits}
 use Rattle.key_cells.proofs.Finding.{id_of}

@@ -1,5 +1,5 @@
 -- What a file stands for that was opened.
-use Rattle.persistent_keys.proofs.Common.{Absent, AreFound, Content, Doubtful, Finds, Free, HasOneEach, HoldsId, HoldsKey, IfSome, IsFiled, IsFoundIn, IsOf, IsOpened, Keys, List, None, Open, Option, Present, Shut, Slot, Some, StandsForKeys, Stored, TellsCell, Unsure, [], ap, arith, body, cases_eq, cell_slot, cond, content_at, content_of, creation_of_slot, false, found_in, gate, get_or-replicate, has_id, length, ne_eqb, refl, stored, subst, suc, sym, true, zero, ℕ, ⊎_elim, ◌+◌, ◌<◌, ◌==◌, ◌∙◌, ◌∷◌, ◌≡◌, ◌≢◌, ◌≤◌}
+use Rattle.persistent_keys.proofs.Common.{Absent, AreFound, Content, Finds, Free, HasOneEach, HoldsId, HoldsKey, IfSome, IsFiled, IsFoundIn, IsOf, IsOpened, Keys, List, None, Open, Option, Present, Slot, Some, StandsForKeys, Stored, TellsCell, [], ap, arith, body, cases_eq, cell_slot, cond, content_at, content_of, creation_of_slot, false, found_in, gate, get_or-replicate, has_id, length, ne_eqb, refl, stored, subst, suc, sym, true, zero, ℕ, ⊎_elim, ◌+◌, ◌<◌, ◌==◌, ◌∙◌, ◌∷◌, ◌≡◌, ◌≢◌, ◌≤◌}
 use Rattle.disk_face.specs.declared.Disk as Disk
 use Rattle.std.proofs.lemmas.Bool.{eqb-true, eq-eqb}
 use Rattle.key_cells.specs.Contents as cells

@@ -1,5 +1,5 @@
 -- How calls of the cells lead from keys to keys.
-use Rattle.persistent_keys.proofs.Common.{Absent, Attributes, Content, CreationFailed, Doubt, Doubtful, FitsKeys, Free, HoldsKey, IfSome, IsDoubted, IsFiled, IsOf, IsPut, Keys, Leads, List, Moves, MovesEither, None, Open, Present, Shows, Shut, Slot, Some, StandsForKeys, Stored, Unsure, [], ap, arith, body, cell_slot, content_at, creation_of_slot, doubt_after, false, gate, get_or-map, get_or-set_same, has_id, inl, inr, is_open, length, length-map, map-set, moves_after_settled, moves_none, moves_settled, of_one_key, refl, set, settled, settled_content, settled_slot, settled_slots, some_image, stored, subst, sym, true, ℕ, ⊎_elim, ◌<◌, ◌∙◌, ◌∷◌, ◌≡◌}
+use Rattle.persistent_keys.proofs.Common.{Absent, Attributes, Content, CreationFailed, Doubt, Doubtful, FitsKeys, Free, HoldsKey, IfSome, IsDoubted, IsFiled, IsOf, IsPut, Keys, Leads, List, Moves, MovesEither, None, Open, Present, Shows, Slot, Some, StandsForKeys, Stored, Unsure, [], ap, arith, body, cell_slot, content_at, creation_of_slot, doubt_after, false, gate, get_or-map, get_or-set_same, has_id, inl, inr, is_open, length, length-map, map-set, moves_after_settled, moves_none, moves_settled, of_one_key, refl, set, settled, settled_content, settled_slot, settled_slots, some_image, stored, subst, sym, true, ℕ, ⊎_elim, ◌<◌, ◌∙◌, ◌∷◌, ◌≡◌}
 use Rattle.disk_face.specs.declared.Disk as Disk
 use Rattle.key_cells.specs.Contents as cells
 use Rattle.key_cells.proofs.Free.{free_set_after, not_free_as}

@@ -1,5 +1,5 @@
 -- What stands at the slots of a table, for this crate and those above it.
-use Rattle.slot_table.proofs.Common.{Bool, Empty, Filling, Full, IsEmptyAt, IsLawful, IsNext, List, NoneEmpty, Pending, Slot, SlotState, Some, Table, [], ap, arith, buffer_of, bytes_of, cases_eq, cases_lt, cond, empty_slot, eqb-true, false, false≢true, find, get_or_past, holds_key, is_empty_state, is_full, is_idle, length, refl, replicate, set, slot_at, sym, true, ℕ, ⊎_elim, ◌&&◌, ◌-◌, ◌<◌, ◌==◌, ◌∙◌, ◌∷◌, ◌≡◌, ◌≢◌}
+use Rattle.slot_table.proofs.Common.{Bool, Empty, Filling, Full, IsEmptyAt, IsLawful, IsNext, List, NoneEmpty, Slot, SlotState, Some, Table, [], ap, arith, buffer_of, bytes_of, cases_eq, cases_lt, cond, empty_slot, eqb-true, false, false≢true, find, get_or_past, holds_key, is_empty_state, is_full, is_idle, length, refl, replicate, set, slot_at, sym, true, ℕ, ⊎_elim, ◌&&◌, ◌-◌, ◌<◌, ◌==◌, ◌∙◌, ◌∷◌, ◌≡◌, ◌≢◌}
 use Rattle.std.proofs.lemmas.List.{get_or-set_same, get_or-set_other, take_at}
 use Rattle.key_attributes.specs.Checks.{persistence}
 

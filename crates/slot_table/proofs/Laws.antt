@@ -1,5 +1,5 @@
 -- What keeps the law of a table.
-use Rattle.slot_table.proofs.Common.{Bool, CanReserve, Empty, Filling, Full, IsEmptyAt, IsLawful, IsLawfulSlot, List, MatchOption, NoKey, None, NoneEmpty, Option, Pending, Slot, SlotState, Some, Table, [], add-zero, ap, arith, buffer_of, cases_eq, cond, empty_slot, false, false≢true, find, full_slot, get_or_past, holds_key, inl, inr, is_empty_state, is_full, is_idle, is_last, is_pending, is_some, length, length-replicate, nat_tests, recency_without, refl, replicate, rules, set, slot_at, suc, sym, times, true, zero, ℕ, ⊎_elim, ◌&&◌, ◌++◌, ◌+◌, ◌-◌, ◌<◌, ◌==◌, ◌∙◌, ◌∷◌, ◌≡◌, ◌≢◌, ◌≤◌}
+use Rattle.slot_table.proofs.Common.{Bool, CanReserve, Empty, Filling, Full, IsEmptyAt, IsLawful, IsLawfulSlot, List, MatchOption, NoKey, None, NoneEmpty, Option, Pending, Slot, SlotState, Some, Table, [], add-zero, ap, arith, buffer_of, cases_eq, cond, empty_slot, false, false≢true, find, full_slot, get_or_past, holds_key, inl, inr, is_empty_state, is_full, is_idle, is_last, is_pending, is_some, length, length-replicate, nat_tests, recency_without, refl, replicate, rules, set, slot_at, sym, times, true, ℕ, ⊎_elim, ◌&&◌, ◌++◌, ◌+◌, ◌-◌, ◌<◌, ◌==◌, ◌∙◌, ◌∷◌, ◌≡◌, ◌≢◌, ◌≤◌}
 use Rattle.std.proofs.lemmas.List.{length-set}
 use Rattle.key_attributes.specs.declared.Attributes.{Attributes}
 use Rattle.slot_table.proofs.AtSlots.{at_each, full_test, read_within, key_is_full, idle_is_full, idle_is_unread, bytes-buffer_of, find_passes}

@@ -1,4 +1,4 @@
-use Rattle.std.proofs.Common.{true, ◌+◌, ◌≡◌}
+use Rattle.std.proofs.Common.{◌+◌, ◌≡◌}
 use Rattle.derivation_states.proofs.Common.{DerivationWork, IsReady, without}
 use Rattle.derivation_states.proofs.output.Output.skip.Given as goal
 

@@ -1,5 +1,5 @@
-use Rattle.std.proofs.Common.{Bool, List, None, Option, Some, add-one, ap, arith, cond, false, is_some, refl, suc, sym, true, unwrap_or, ℕ, ◌+◌, ◌-◌, ◌∙◌, ◌≡◌, ◌≤◌}
-use Rattle.derivation_states.proofs.Common.{DerivationWork, HoldsInputs, Inputs, KeyDerivation, NamesDerivation, block_at, block_length, bytes_or_empty, cond-false, cond-true, expand_block, hash_of, hmac_key, is_hkdf, number_or_zero, pbkdf2_block, work_block_length, work_hash}
+use Rattle.std.proofs.Common.{List, None, Option, Some, add-one, ap, arith, false, is_some, refl, suc, sym, true, unwrap_or, ℕ, ◌+◌, ◌-◌, ◌∙◌, ◌≡◌, ◌≤◌}
+use Rattle.derivation_states.proofs.Common.{DerivationWork, HoldsInputs, Inputs, KeyDerivation, NamesDerivation, block_at, block_length, bytes_or_empty, cond-false, cond-true, expand_block, hash_of, hmac_key, is_hkdf, number_or_zero, pbkdf2_block}
 use Rattle.std.specs.Option.{option_map}
 use Rattle.derivation_states.proofs.Blocks.{block_of_hkdf, block_of_pbkdf2, by_pbkdf2, prk_of}
 use Rattle.key_policy.specs.Names.{is_hkdf as is_hkdf_scheme}

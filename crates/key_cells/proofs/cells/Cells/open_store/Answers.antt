@@ -1,4 +1,4 @@
-use Rattle.key_cells.proofs.Common.{IfErr-weaker, IfOk-weaker, length, sym}
+use Rattle.key_cells.proofs.Common.{IfErr-weaker, IfOk-weaker, sym}
 use Rattle.key_cells.proofs.CellsRead.{measured_as}
 use Rattle.key_cells.proofs.Opened.{refused_calm, opened_after, refused_after, told_nothing, no_store_of}
 use Rattle.key_cells.proofs.cells.Cells.open_store.Goals as goal
