@@ -12,8 +12,7 @@ ghost use Rattle.aead_states.specs.Holding.{IsAeadOperation, IsClearAead};
 ghost use Rattle.aead_states.specs.Setups.{aead_setup};
 
 use crate::running::RunningAead;
-use alg_encoding::Alg;
-use key_policy::aead_algorithm;
+use key_policy::NamedAlgorithm;
 use multipart::{Family, OperationState, Phase, Steps};
 use psa_status::Status;
 use service_calls::{AeadStep, Output};
@@ -57,7 +56,7 @@ impl AeadState {
         self.state.wipe();
     }
 
-    fn setup(&mut self, encrypts: bool, key: &[u8], alg: Alg) -> Result<(), Status>
+    fn setup(&mut self, encrypts: bool, key: &[u8], alg: NamedAlgorithm) -> Result<(), Status>
         requires key { IsKey key.now }
         requires algorithm { IsOfClass Aead alg.0 }
         ensures state { (op : Operation AeadWork) → IsAeadOperation self.old op →
@@ -66,14 +65,14 @@ impl AeadState {
             plain_reply result ≡ (aead_setup op encrypts alg.0 key.now).reply }
     {
         self.state.phase.check_inactive()?;
-        let aead = aead_algorithm(alg)?;
+        let aead = alg.aead()?;
         self.state.work.start(encrypts, key, aead);
         self.state.phase = Phase::Active;
         Ok(())
     }
 
     /// Sets an inactive operation up to encrypt a text under a key. `BadState` where it isn't inactive.
-    pub fn aead_encrypt_setup(&mut self, key: &[u8], alg: Alg) -> Result<(), Status>
+    pub fn aead_encrypt_setup(&mut self, key: &[u8], alg: NamedAlgorithm) -> Result<(), Status>
         requires key { IsKey key.now }
         requires algorithm { IsOfClass Aead alg.0 }
         ensures state { (op : Operation AeadWork) → IsAeadOperation self.old op →
@@ -85,7 +84,7 @@ impl AeadState {
     }
 
     /// Sets an inactive operation up to decrypt a text under a key. `BadState` where it isn't inactive.
-    pub fn aead_decrypt_setup(&mut self, key: &[u8], alg: Alg) -> Result<(), Status>
+    pub fn aead_decrypt_setup(&mut self, key: &[u8], alg: NamedAlgorithm) -> Result<(), Status>
         requires key { IsKey key.now }
         requires algorithm { IsOfClass Aead alg.0 }
         ensures state { (op : Operation AeadWork) → IsAeadOperation self.old op →

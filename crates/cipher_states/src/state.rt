@@ -13,8 +13,7 @@ ghost use Rattle.key_policy.specs.Keys.{is_key};
 ghost use Rattle.cipher_states.specs.Setups.{cipher_setup};
 
 use crate::running::RunningCipher;
-use alg_encoding::Alg;
-use key_policy::cipher_algorithm;
+use key_policy::NamedAlgorithm;
 use multipart::{Family, OperationState, Phase, Steps};
 use psa_status::Status;
 use service_calls::{CipherStep, Output};
@@ -61,7 +60,7 @@ impl CipherState {
         self.state.wipe();
     }
 
-    fn setup(&mut self, encrypts: bool, key: &[u8], alg: Alg) -> Result<(), Status>
+    fn setup(&mut self, encrypts: bool, key: &[u8], alg: NamedAlgorithm) -> Result<(), Status>
         requires algorithm { IsOfClass Cipher alg.0 }
         requires key { IsKey key.now }
         ensures state { (op : Operation CipherWork) → IsCipherOperation self.old op →
@@ -70,14 +69,14 @@ impl CipherState {
             plain_reply result ≡ (cipher_setup op encrypts alg.0 key.now).reply }
     {
         self.state.phase.check_inactive()?;
-        let mode = cipher_algorithm(alg)?;
+        let mode = alg.cipher()?;
         self.state.work.start(encrypts, mode, key);
         self.state.phase = Phase::Active;
         Ok(())
     }
 
     /// Sets an inactive operation up to encrypt under an AES key. `BadState` where it isn't inactive.
-    pub fn cipher_encrypt_setup(&mut self, key: &[u8], alg: Alg) -> Result<(), Status>
+    pub fn cipher_encrypt_setup(&mut self, key: &[u8], alg: NamedAlgorithm) -> Result<(), Status>
         requires algorithm { IsOfClass Cipher alg.0 }
         requires key { IsKey key.now }
         ensures state { (op : Operation CipherWork) → IsCipherOperation self.old op →
@@ -89,7 +88,7 @@ impl CipherState {
     }
 
     /// Sets an inactive operation up to decrypt under an AES key. `BadState` where it isn't inactive.
-    pub fn cipher_decrypt_setup(&mut self, key: &[u8], alg: Alg) -> Result<(), Status>
+    pub fn cipher_decrypt_setup(&mut self, key: &[u8], alg: NamedAlgorithm) -> Result<(), Status>
         requires algorithm { IsOfClass Cipher alg.0 }
         requires key { IsKey key.now }
         ensures state { (op : Operation CipherWork) → IsCipherOperation self.old op →

@@ -13,7 +13,7 @@ ghost use Rattle.derivation_states.specs.States.{IsClearDerivation, IsDerivation
 use alg_encoding::Alg;
 use derivation::RunningDerivation;
 use key_attributes::Attributes;
-use key_policy::derivation_algorithm;
+use key_policy::NamedAlgorithm;
 use multipart::{Family, OperationState, Phase, Steps};
 use psa_status::{Memory, Status};
 use service_calls::{DerivationStep, Output};
@@ -93,7 +93,7 @@ impl DerivationState {
             → plain_reply result ≡ (derivation_setup op alg.0).reply }
     {
         self.state.phase.check_inactive()?;
-        let derivation = derivation_algorithm(alg)?;
+        let derivation = NamedAlgorithm::of(alg).derivation()?;
         self.state.work.output.start(derivation);
         self.state.phase = Phase::Active;
         Ok(())

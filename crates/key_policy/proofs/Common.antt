@@ -3,6 +3,7 @@ pub use Rattle.alg_encoding.specs.Encoding.{IsConcrete, lengths_of}
 unfoldable pub use Rattle.alg_encoding.specs.Encoding.{base_of, class_of, entry_of, is_concrete, tag_length_of}
 pub use Rattle.alg_encoding.specs.declared.table.Class.{Class}
 pub use Rattle.key_policy.specs.Parse.{algorithm_at, class_in, is_hmac_in}
+unfoldable pub use Rattle.key_policy.specs.Parse.{algorithm_of}
 pub use Rattle.key_policy.specs.Permissions.{derivation_refusal, export_refusal, pattern_refusal}
 pub use Rattle.psa_status.specs.Rows.{first_row, unless}
 pub use Rattle.psa_status.specs.declared.Status.{Status}

@@ -1,6 +1,6 @@
 -- What the table of algorithms says of the algorithm that a number names.
 use Rattle.std.proofs.Common.{Bool, IfSome, List, None, Option, Some, ap, arith, cond, false, is_some, leb, not, refl, subst, sym, true, ℕ, ◌%◌, ◌&&◌, ◌/◌, ◌==◌, ◌^◌, ◌||◌, ◌∙◌, ◌≡◌, ◌≤◌}
-use Rattle.key_policy.proofs.Common.{Class, algorithm_at, base_of, class_in, class_number, class_of, cmac_base, digest, entry_of, hash_block_length, is_concrete, is_hmac, is_hmac_in, lengths_of, low_byte, mode_of, tag_length_of, whole_mac}
+use Rattle.key_policy.proofs.Common.{Class, algorithm_at, algorithm_of, base_of, class_in, class_number, class_of, cmac_base, digest, entry_of, hash_block_length, is_concrete, is_hmac, is_hmac_in, lengths_of, low_byte, mode_of, tag_length_of, whole_mac}
 use Rattle.std.specs.Option.{option_map, option_map_or}
 use Rattle.std.proofs.lemmas.Bool.{and_parts, eqb-true, eq-eqb, leb-true, not-true}
 use Rattle.alg_encoding.specs.declared.table.Base.{Base}
@@ -202,3 +202,18 @@ module _ (alg : ℕ) where
           let tagged : (not (has_length b.lengths) || is_some (tag_length_of alg)) ≡ true =
           subst (λ (o : Option Base). (not (has_length (option_map_or (λ (x : Base). x.lengths) o lengths.NoLength)) || is_some (tag_length_of alg)) ≡ true) e (and_parts (is_some (entry_of alg)) _ h).1 in
           there b e (algorithm_at (base_of alg) (tag_length_of alg)) (row_named b (tag_length_of alg) e tagged)
+
+-- the algorithm that a number names, where it names one
+pub record Named (alg : ℕ) (found : Option Algorithm) : Type 0 where
+  pub concrete : is_some found ≡ is_concrete alg
+  pub of_class : IfSome found (λ a. class_of alg ≡ Some (class_in a))
+  pub hmac : IfSome found (λ a. is_hmac alg ≡ is_hmac_in a)
+  pub names : IfSome found (Names alg)
+
+pub named : (alg : ℕ) → Named alg (algorithm_of alg)
+unfolding algorithm_of
+named alg = by_concrete (is_concrete alg) refl
+  where
+    by_concrete : (b : Bool) → is_concrete alg ≡ b → Named alg (cond b (algorithm_at (base_of alg) (tag_length_of alg)) None)
+    by_concrete true e = let p = parsed alg e in record { concrete = p.there ∙ sym e; of_class = p.of_class; hmac = p.hmac; names = p.names }
+    by_concrete false e = record { concrete = sym e; of_class = tt; hmac = tt; names = tt }

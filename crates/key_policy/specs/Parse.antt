@@ -2,6 +2,7 @@
 use Rattle.std.specs.Prelude.{ℕ, ◌/◌, ◌%◌, ◌^◌, ◌==◌, Bool, false, not, Option, Some, None, if◌then◌else◌}
 use Rattle.alg_encoding.specs.declared.table.Class.{Class}
 use Rattle.alg_encoding.specs.declared.table.Class.TheVariants as class
+use Rattle.alg_encoding.specs.Encoding.{base_of, is_concrete, tag_length_of}
 use Rattle.hash_ops.specs.declared.Hash.{Hash}
 use Rattle.hash_ops.specs.Hashes.{of_low_byte}
 use Rattle.key_policy.specs.declared.algorithms.Algorithm.{Algorithm}
@@ -49,6 +50,10 @@ algorithm_at base tag =
     else if base == 0x05400100 then aead_at Ccm tag
     else if base == 0x05400200 then aead_at Gcm tag
     else hashed_if (base / 2 ^ 8) (of_low_byte (base % 2 ^ 8)) tag
+
+-- the algorithm that a number names
+unfoldable pub algorithm_of : ℕ → Option Algorithm
+algorithm_of alg = if is_concrete alg then algorithm_at (base_of alg) (tag_length_of alg) else None
 
 abbrev pub class_in : Algorithm → Class
 class_in (family.Hash hash) = class.Hash

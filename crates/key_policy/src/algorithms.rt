@@ -1,18 +1,11 @@
 // What an algorithm's number names.
-ghost use Rattle.std.specs.Prelude.{◌≡◌, ◌%◌, ◌^◌, IfSome, IfOk, Some, is_some, if◌then◌else◌};
-ghost use Rattle.std.specs.Result.{result_err};
-ghost use Rattle.psa_status.specs.Rows.{first_row};
-ghost use Rattle.psa_status.specs.declared.Status.TheVariants.{InvalidArgument, NotSupported};
-ghost use Rattle.alg_encoding.specs.declared.table.Class.TheVariants as class;
-ghost use Rattle.alg_encoding.specs.Encoding.{class_of, is_concrete};
-ghost use Rattle.store_model.specs.Prelude.{is_hmac, class_rows};
-ghost use Rattle.key_policy.specs.Names.{Names, block_limit, is_hkdf, NamesAead, NamesDerivation, NamesHash, NamesMac, NamesMode};
-ghost use Rattle.key_policy.specs.Parse.{aead_at, algorithm_at, class_in, derivation_at, hashed, is_hmac_in, mac_at};
+ghost use Rattle.std.specs.Prelude.{◌≡◌, ◌%◌, ◌^◌};
+ghost use Rattle.key_policy.specs.Names.{block_limit, is_hkdf};
+ghost use Rattle.key_policy.specs.Parse.{aead_at, algorithm_at, algorithm_of, class_in, derivation_at, hashed, is_hmac_in, mac_at};
 
 use crate::modes::Mode;
 use alg_encoding::{Alg, Class};
 use hash_ops::Hash;
-use psa_status::Status;
 
 /// What a MAC is made of.
 #[derive(Clone, Copy, Drop)]
@@ -117,31 +110,15 @@ fn algorithm_at(base: u32, tag: Option<u8>) -> Option<Algorithm>
 }
 
 impl Algorithm {
-    /// The algorithm that a number names; `None` exactly for one that names no one algorithm, as a number outside the
-    /// table or one that permits several tag lengths.
-    pub fn of(alg: Alg) -> Option<Algorithm>
-        ensures concrete { is_some result ≡ is_concrete alg.0 }
-        ensures class { IfSome result (λ algorithm. class_of alg.0 ≡ Some (class_in algorithm)) }
-        ensures hmac { IfSome result (λ algorithm. is_hmac alg.0 ≡ is_hmac_in algorithm) }
-        ensures names { IfSome result (Names alg.0) }
+    #[tactic(auto, unfolding(crate::specs::Parse::algorithm_of))]
+    // The algorithm that a number names.
+    pub(crate) fn of(alg: Alg) -> Option<Algorithm>
+        ensures { result ≡ algorithm_of alg.0 }
     {
         if alg.is_concrete() {
             algorithm_at(alg.base(), alg.tag_length())
         } else {
             None
-        }
-    }
-
-    /// The algorithm of this class that a number names. `NotSupported` where the number is outside the table of
-    /// algorithms, and `InvalidArgument` where it names no one algorithm of the class.
-    pub fn of_class(class: Class, alg: Alg) -> Result<Algorithm, Status>
-        ensures refusal { result_err result ≡ first_row (class_rows class alg.0) }
-        ensures class { IfOk result (λ algorithm. class_in algorithm ≡ class) }
-        ensures hmac { IfOk result (λ algorithm. is_hmac alg.0 ≡ is_hmac_in algorithm) }
-    {
-        match Algorithm::of(alg) {
-            Some(algorithm) if algorithm.class() == class => Ok(algorithm),
-            _ => Err(refusal(alg)),
         }
     }
 
@@ -183,75 +160,5 @@ impl Scheme {
             Scheme::Hkdf => 255,
             Scheme::Pbkdf2 => u32::MAX,
         }
-    }
-}
-
-// The refusal of a number that has no class, that has another one than is asked for, or that isn't concrete.
-fn refusal(alg: Alg) -> Status
-    ensures { result ≡ (if is_some (class_of alg.0) then InvalidArgument else NotSupported) }
-{
-    match alg.class() {
-        Some(_) => Status::InvalidArgument,
-        None => Status::NotSupported,
-    }
-}
-
-/// The hash function that a number names. `NotSupported` where it is outside the table of algorithms, and
-/// `InvalidArgument` where it names no one hash function.
-pub fn hash_algorithm(alg: Alg) -> Result<Hash, Status>
-    ensures refusal { result_err result ≡ first_row (class_rows class.Hash alg.0) }
-    ensures names { IfOk result (NamesHash alg.0) }
-{
-    match Algorithm::of(alg) {
-        Some(Algorithm::Hash(hash)) => Ok(hash),
-        _ => Err(refusal(alg)),
-    }
-}
-
-/// The MAC that a number names. `NotSupported` where it is outside the table of algorithms, and `InvalidArgument` where
-/// it names no one MAC.
-pub fn mac_algorithm(alg: Alg) -> Result<MacAlgorithm, Status>
-    ensures refusal { result_err result ≡ first_row (class_rows class.Mac alg.0) }
-    ensures names { IfOk result (NamesMac alg.0) }
-{
-    match Algorithm::of(alg) {
-        Some(Algorithm::Mac(mac)) => Ok(mac),
-        _ => Err(refusal(alg)),
-    }
-}
-
-/// The mode of the cipher that a number names. `NotSupported` where it is outside the table of algorithms, and
-/// `InvalidArgument` where it names no cipher.
-pub fn cipher_algorithm(alg: Alg) -> Result<Mode, Status>
-    ensures refusal { result_err result ≡ first_row (class_rows class.Cipher alg.0) }
-    ensures names { IfOk result (NamesMode alg.0) }
-{
-    match Algorithm::of(alg) {
-        Some(Algorithm::Cipher(mode)) => Ok(mode),
-        _ => Err(refusal(alg)),
-    }
-}
-
-/// The AEAD that a number names. `NotSupported` where it is outside the table of algorithms, and `InvalidArgument`
-/// where it names no one AEAD.
-pub fn aead_algorithm(alg: Alg) -> Result<AeadAlgorithm, Status>
-    ensures refusal { result_err result ≡ first_row (class_rows class.Aead alg.0) }
-    ensures names { IfOk result (NamesAead alg.0) }
-{
-    match Algorithm::of(alg) {
-        Some(Algorithm::Aead(aead)) => Ok(aead),
-        _ => Err(refusal(alg)),
-    }
-}
-
-/// The derivation that a number names. `NotSupported` where it is outside the table of algorithms, and
-/// `InvalidArgument` where it names no derivation.
-pub fn derivation_algorithm(alg: Alg) -> Result<KeyDerivation, Status>
-    ensures refusal { result_err result ≡ first_row (class_rows class.Derivation alg.0) }
-    ensures names { IfOk result (NamesDerivation alg.0) }
-{
-    match Algorithm::of(alg) {
-        Some(Algorithm::Derivation(derivation)) => Ok(derivation),
-        _ => Err(refusal(alg)),
     }
 }

@@ -8,6 +8,7 @@ ghost use Rattle.key_policy.specs.Parse.{is_hmac_in};
 ghost use Rattle.key_policy.specs.Permissions.{IsKeyFor, derivation_refusal, export_refusal};
 
 use crate::algorithms::Algorithm;
+use crate::named::NamedAlgorithm;
 use crate::steps;
 use alg_encoding::{Alg, Class};
 use key_attributes::{Attributes, KeyType, Usage};
@@ -52,14 +53,14 @@ fn fits_type(algorithm: Algorithm, key_type: KeyType) -> bool
 pub fn check_use(
     class: Class,
     usage: Usage,
-    alg: Alg,
+    alg: NamedAlgorithm,
     attributes: &Attributes,
 ) -> Result<(), Status>
     ensures refusal { (key : Key) → key.attributes ≡ attributes.now → result ≡ unless (first_row (use_rows true class usage.0 alg.0 (Some key))) tt }
     ensures fits { OnOk result ((bytes : List ℕ) → IsTrue (permits_size attributes.now.key_type.0 (length bytes)) → IsKeyFor class alg.0 bytes) }
 {
-    let algorithm = Algorithm::of_class(class, alg)?;
-    if !permits(&attributes.policy, usage, alg) {
+    let algorithm = alg.of_class(class)?;
+    if !permits(&attributes.policy, usage, alg.number()) {
         return Err(Status::NotPermitted);
     }
     if !fits_type(algorithm, attributes.key_type) {

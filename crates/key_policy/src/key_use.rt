@@ -6,6 +6,7 @@ ghost use Rattle.store_model.specs.Prelude.{Key};
 ghost use Rattle.key_policy.specs.Uses.{FitsUse, use_refusal, used_for};
 
 use crate::checks::{check_derivation, check_export, check_local, check_use};
+use crate::named::NamedAlgorithm;
 use alg_encoding::{Alg, Class};
 use key_attributes::{Attributes, Usage};
 use psa_status::Status;
@@ -20,7 +21,7 @@ pub enum KeyUse {
     Algorithm {
         class: Class,
         usage: Usage,
-        alg: Alg,
+        alg: NamedAlgorithm,
     },
     /// The secret or the password of a derivation, at an input step.
     Derivation {
@@ -31,7 +32,7 @@ pub enum KeyUse {
 
 impl KeyUse {
     /// The use of a key for a purpose, by an algorithm.
-    pub fn of_purpose(purpose: Purpose, alg: Alg) -> KeyUse
+    pub fn of_purpose(purpose: Purpose, alg: NamedAlgorithm) -> KeyUse
         ensures { result ≡ used_for purpose alg }
     {
         let (class, usage) = match purpose {

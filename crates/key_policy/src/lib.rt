@@ -10,11 +10,11 @@ mod key_use;
 mod keys;
 mod lengths;
 mod modes;
+mod named;
 pub mod steps;
 
 pub use algorithms::{
     AeadAlgorithm, AeadKind, Algorithm, KeyDerivation, MacAlgorithm, MacKind, Scheme,
-    aead_algorithm, cipher_algorithm, derivation_algorithm, hash_algorithm, mac_algorithm,
 };
 pub use checks::check_use;
 pub use copies::copied_attributes;
@@ -22,3 +22,4 @@ pub use key_use::KeyUse;
 pub use keys::aes_key;
 pub use lengths::TOTAL_LIMIT;
 pub use modes::{Mode, enciphered_length, is_ciphertext_length, iv_length, takes_whole_blocks};
+pub use named::NamedAlgorithm;

@@ -10,7 +10,7 @@ ghost use Rattle.mac_states.specs.Setups.{hash_setup};
 use crate::running_hash::RunningHash;
 use alg_encoding::Alg;
 use hash_ops::Hash;
-use key_policy::hash_algorithm;
+use key_policy::NamedAlgorithm;
 use multipart::{Family, OperationState, Phase, Steps};
 use psa_status::Status;
 use service_calls::{HashStep, Output};
@@ -62,7 +62,7 @@ impl HashOpState {
             plain_reply result ≡ (hash_setup op alg.0).reply }
     {
         self.state.phase.check_inactive()?;
-        let which = hash_algorithm(alg)?;
+        let which = NamedAlgorithm::of(alg).hash()?;
         self.state.work = RunningHash::new(which);
         self.state.phase = Phase::Active;
         Ok(())

@@ -12,8 +12,7 @@ ghost use Rattle.multipart.specs.Turns.{is_active, loses_key};
 ghost use Rattle.mac_states.specs.Setups.{mac_setup};
 
 use crate::running_mac::RunningMac;
-use alg_encoding::Alg;
-use key_policy::mac_algorithm;
+use key_policy::NamedAlgorithm;
 use multipart::{Family, OperationState, Phase, Steps};
 use psa_status::Status;
 use service_calls::{MacStep, Output};
@@ -56,7 +55,7 @@ impl MacState {
         self.state.wipe();
     }
 
-    fn setup(&mut self, verifies: bool, key: &[u8], alg: Alg) -> Result<(), Status>
+    fn setup(&mut self, verifies: bool, key: &[u8], alg: NamedAlgorithm) -> Result<(), Status>
         requires algorithm { IsOfClass Mac alg.0 }
         requires aes { base_of alg.0 ≡ cmac_base → IsKey key.now }
         ensures state { (op : Operation MacWork) → IsMacOperation self.old op →
@@ -65,14 +64,14 @@ impl MacState {
             plain_reply result ≡ (mac_setup op verifies alg.0 key.now).reply }
     {
         self.state.phase.check_inactive()?;
-        let mac = mac_algorithm(alg)?;
+        let mac = alg.mac()?;
         self.state.work.start(verifies, mac, key);
         self.state.phase = Phase::Active;
         Ok(())
     }
 
     /// Sets an inactive operation up to make the MAC of a message under a key. `BadState` where it isn't inactive.
-    pub fn mac_sign_setup(&mut self, key: &[u8], alg: Alg) -> Result<(), Status>
+    pub fn mac_sign_setup(&mut self, key: &[u8], alg: NamedAlgorithm) -> Result<(), Status>
         requires algorithm { IsOfClass Mac alg.0 }
         requires aes { base_of alg.0 ≡ cmac_base → IsKey key.now }
         ensures state { (op : Operation MacWork) → IsMacOperation self.old op →
@@ -84,7 +83,7 @@ impl MacState {
     }
 
     /// Sets an inactive operation up to verify the MAC of a message under a key. `BadState` where it isn't inactive.
-    pub fn mac_verify_setup(&mut self, key: &[u8], alg: Alg) -> Result<(), Status>
+    pub fn mac_verify_setup(&mut self, key: &[u8], alg: NamedAlgorithm) -> Result<(), Status>
         requires algorithm { IsOfClass Mac alg.0 }
         requires aes { base_of alg.0 ≡ cmac_base → IsKey key.now }
         ensures state { (op : Operation MacWork) → IsMacOperation self.old op →

@@ -3,21 +3,20 @@ ghost use Rattle.std.specs.Prelude.{◌≡◌};
 ghost use Rattle.secure_element_calls.specs.Answers.{status_of};
 ghost use Rattle.secure_element_calls.specs.Calls.{algorithm_asked, class_asked, usage_asked};
 
-use alg_encoding::{Alg, Class};
+use alg_encoding::Class;
 use key_attributes::Usage;
+use key_policy::NamedAlgorithm;
 use psa_status::Status;
-
-const CTR: Alg = Alg(0x04c0_1000);
 
 /// A call in one part that the secure element computes with its key. An output buffer stands beside it.
 #[derive(Clone, Copy, Drop)]
 pub enum ElementCall<'a> {
     MacCompute {
-        alg: Alg,
+        alg: NamedAlgorithm,
         input: &'a [u8],
     },
     MacVerify {
-        alg: Alg,
+        alg: NamedAlgorithm,
         input: &'a [u8],
         mac: &'a [u8],
     },
@@ -44,12 +43,14 @@ impl ElementCall<'_> {
     }
 
     /// Its algorithm.
-    pub fn algorithm(&self) -> Alg
+    pub fn algorithm(&self) -> NamedAlgorithm
         ensures { result.0 ≡ algorithm_asked self.now }
     {
         match *self {
             ElementCall::MacCompute { alg, .. } | ElementCall::MacVerify { alg, .. } => alg,
-            ElementCall::CtrEncrypt { .. } | ElementCall::CtrDecrypt { .. } => CTR,
+            ElementCall::CtrEncrypt { .. } | ElementCall::CtrDecrypt { .. } => {
+                NamedAlgorithm::ctr()
+            }
         }
     }
 

@@ -9,25 +9,24 @@ ghost use Rattle.secure_element_calls.specs.Given.{HasVector, given_by};
 ghost use Rattle.driver_dispatch.specs.Calls.{IsMac};
 
 use crate::ElementCall;
-use alg_encoding::Alg;
-use key_policy::{TOTAL_LIMIT, mac_algorithm};
+use key_policy::{NamedAlgorithm, TOTAL_LIMIT};
 use psa_status::Status;
 
 // The bytes of an initialisation vector.
 const IV_LENGTH: usize = 16;
 
 // The bytes of a MAC.
-pub(crate) fn mac_length(alg: Alg) -> usize
+pub(crate) fn mac_length(alg: NamedAlgorithm) -> usize
     requires { IsOfClass Mac alg.0 }
     ensures mac { IsMac alg.0 result }
     ensures bound { result ≤ 64 }
     ensures whole { (key message : List ℕ) → length (mac_of alg.0 key message) ≡ result }
 {
-    usize::from(mac_algorithm(alg).unwrap().length)
+    usize::from(alg.mac().unwrap().length)
 }
 
 // The bytes of a MAC, or the refusal of a message of so many bytes or of the room for the MAC.
-fn check_mac(alg: Alg, bytes: usize, room: usize) -> Result<usize, Status>
+fn check_mac(alg: NamedAlgorithm, bytes: usize, room: usize) -> Result<usize, Status>
     requires { IsOfClass Mac alg.0 }
     ensures value { result ≡ unless (first_row (compute_rows alg.0 bytes room)) (tag_bytes alg.0) }
     ensures room { IfOk result (λ needed. needed ≤ room) }

@@ -12,8 +12,8 @@ ghost use Rattle.secure_element_calls.specs.Given.{Compares, HasVector, agrees_b
 use crate::ElementCall;
 use crate::checking::mac_length;
 use crate::counters::xor_text;
-use alg_encoding::Alg;
 use driver_dispatch::Devices;
+use key_policy::NamedAlgorithm;
 use multipart::is_front;
 use psa_status::Failed;
 
@@ -21,7 +21,7 @@ use psa_status::Failed;
 fn is_mac<A: Devices>(
     devices: &mut A,
     handle: u64,
-    alg: Alg,
+    alg: NamedAlgorithm,
     input: &[u8],
     mac: &[u8],
 ) -> Result<bool, Failed>
@@ -36,7 +36,7 @@ fn is_mac<A: Devices>(
 {
     let length = mac_length(alg);
     let mut own = [0; 64];
-    let computed = devices.compute_mac(handle, alg, input, &mut own[..length]);
+    let computed = devices.compute_mac(handle, alg.number(), input, &mut own[..length]);
     let same = is_front(mac, &mut own, length);
     match computed {
         Ok(()) => Ok(same),
@@ -114,7 +114,9 @@ pub fn fill<A: Devices>(
         ElementCall::MacVerify { alg, input, mac } => {
             return is_mac(devices, handle, alg, input, mac);
         }
-        ElementCall::MacCompute { alg, input } => devices.compute_mac(handle, alg, input, out),
+        ElementCall::MacCompute { alg, input } => {
+            devices.compute_mac(handle, alg.number(), input, out)
+        }
         ElementCall::CtrEncrypt { iv, input } => encrypt(devices, handle, iv, input, out),
         ElementCall::CtrDecrypt { input } => decrypt(devices, handle, input, out),
     };

@@ -8,8 +8,7 @@ ghost use Rattle.alg_encoding.specs.declared.table.Class.TheVariants.{Aead};
 ghost use Rattle.key_policy.specs.Names.{IsOfClass, IsTagLength, NamesAead, is_ccm, permits_lengths_by};
 
 use aes_core::AesKey;
-use alg_encoding::Alg;
-use key_policy::{AeadAlgorithm, AeadKind, TOTAL_LIMIT, aead_algorithm, aes_key};
+use key_policy::{AeadAlgorithm, AeadKind, NamedAlgorithm, TOTAL_LIMIT, aes_key};
 use psa_status::Status;
 
 // Whether the algorithm takes so many bytes of a nonce, of associated data, and of a payload.
@@ -108,7 +107,7 @@ fn open_into(
 /// Writes the ciphertext of a text and its tag to the front of a buffer that has room for them, and answers how many
 /// bytes they are. `InvalidArgument` where the algorithm doesn't take so many bytes, and `BufferTooSmall`.
 pub fn aead_encrypt(
-    alg: Alg,
+    alg: NamedAlgorithm,
     key: &[u8],
     nonce: &[u8],
     ad: &[u8],
@@ -120,7 +119,7 @@ pub fn aead_encrypt(
     ensures reply { AnswersLength result (model.sealed_reply alg.0 key.now nonce.now ad.now input.now (length out.old)) }
     ensures buffer { out.new ≡ buffer_after out.old (model.sealed_reply alg.0 key.now nonce.now ad.now input.now (length out.old)) }
 {
-    let aead = aead_algorithm(alg)?;
+    let aead = alg.aead()?;
     if !permits_lengths(aead.kind, nonce.len(), ad.len(), input.len()) {
         return Err(Status::InvalidArgument);
     }
@@ -138,7 +137,7 @@ pub fn aead_encrypt(
 /// length. `InvalidSignature` where the tag isn't its tag: the buffer then has zeros in the text's place.
 /// `InvalidArgument` where the algorithm doesn't take so many bytes, and `BufferTooSmall`.
 pub fn aead_decrypt(
-    alg: Alg,
+    alg: NamedAlgorithm,
     key: &[u8],
     nonce: &[u8],
     ad: &[u8],
@@ -150,7 +149,7 @@ pub fn aead_decrypt(
     ensures reply { AnswersOrSpoils result (model.opened_reply alg.0 key.now nonce.now ad.now input.now (length out.old)) }
     ensures buffer { out.new ≡ buffer_after out.old (model.opened_reply alg.0 key.now nonce.now ad.now input.now (length out.old)) }
 {
-    let aead = aead_algorithm(alg)?;
+    let aead = alg.aead()?;
     let tag_length = usize::from(aead.tag_length);
     if input.len() < tag_length {
         return Err(Status::InvalidArgument);

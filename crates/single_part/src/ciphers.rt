@@ -10,9 +10,8 @@ ghost use Rattle.key_policy.specs.Modes.{model_mode};
 ghost use Rattle.key_policy.specs.Names.{IsOfClass};
 
 use crate::modes::{decipher, encipher_behind};
-use alg_encoding::Alg;
 use key_policy::{
-    Mode, TOTAL_LIMIT, aes_key, cipher_algorithm, enciphered_length, is_ciphertext_length,
+    Mode, NamedAlgorithm, TOTAL_LIMIT, aes_key, enciphered_length, is_ciphertext_length,
     iv_length, takes_whole_blocks,
 };
 use psa_status::Status;
@@ -87,7 +86,7 @@ fn encrypt(
 /// so many bytes, and `BufferTooSmall`; a refusal draws no random word.
 pub fn cipher_encrypt(
     stream: &mut Stream,
-    alg: Alg,
+    alg: NamedAlgorithm,
     key: &[u8],
     input: &[u8],
     out: &mut [u8],
@@ -102,7 +101,7 @@ pub fn cipher_encrypt(
     ensures stream { stream.new ≡ drawn_from stream.old
         (encrypted (mode_of alg.0) (next_bytes stream.old (iv_length (mode_of alg.0))) key.now input.now (length out.old)).drawn }
 {
-    encrypt(stream, cipher_algorithm(alg)?, key, input, out)
+    encrypt(stream, alg.cipher()?, key, input, out)
 }
 
 fn decrypt(mode: Mode, key: &[u8], input: &[u8], out: &mut [u8]) -> Result<usize, Status>
@@ -122,11 +121,11 @@ fn decrypt(mode: Mode, key: &[u8], input: &[u8], out: &mut [u8]) -> Result<usize
 /// room for the whole ciphertext, and answers the text's length. `InvalidPadding` where no padding ends the text and one
 /// should: the buffer then has zeros in its place. `InvalidArgument` where the algorithm doesn't take so many bytes, and
 /// `BufferTooSmall`.
-pub fn cipher_decrypt(alg: Alg, key: &[u8], input: &[u8], out: &mut [u8]) -> Result<usize, Status>
+pub fn cipher_decrypt(alg: NamedAlgorithm, key: &[u8], input: &[u8], out: &mut [u8]) -> Result<usize, Status>
     requires algorithm { IsOfClass Cipher alg.0 }
     requires key { IsKey key.now }
     ensures reply { AnswersOrSpoils result (decrypted_reply (mode_of alg.0) key.now input.now (length out.old)) }
     ensures buffer { out.new ≡ buffer_after out.old (decrypted_reply (mode_of alg.0) key.now input.now (length out.old)) }
 {
-    decrypt(cipher_algorithm(alg)?, key, input, out)
+    decrypt(alg.cipher()?, key, input, out)
 }

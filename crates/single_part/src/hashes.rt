@@ -5,7 +5,7 @@ ghost use Rattle.service_calls.specs.Answers.{AnswersLength, plain_reply};
 
 use alg_encoding::Alg;
 use hash_ops::one_shot;
-use key_policy::hash_algorithm;
+use key_policy::NamedAlgorithm;
 use multipart::{give_front, is_front};
 use psa_status::Status;
 
@@ -15,7 +15,7 @@ pub fn hash_compute(alg: Alg, input: &[u8], out: &mut [u8]) -> Result<usize, Sta
     ensures reply { AnswersLength result (hash_reply alg.0 input.now (length out.old)) }
     ensures buffer { out.new ≡ buffer_after out.old (hash_reply alg.0 input.now (length out.old)) }
 {
-    let which = hash_algorithm(alg)?;
+    let which = NamedAlgorithm::of(alg).hash()?;
     let mut own = [0; 64];
     let length = one_shot::hash(which, input, &mut own);
     give_front(&mut own, length, out)
@@ -26,7 +26,7 @@ pub fn hash_compute(alg: Alg, input: &[u8], out: &mut [u8]) -> Result<usize, Sta
 pub fn hash_compare(alg: Alg, input: &[u8], hash: &[u8]) -> Result<(), Status>
     ensures { plain_reply result ≡ compared_reply alg.0 input.now hash.now }
 {
-    let which = hash_algorithm(alg)?;
+    let which = NamedAlgorithm::of(alg).hash()?;
     let mut own = [0; 64];
     let length = one_shot::hash(which, input, &mut own);
     if is_front(hash, &mut own, length) {

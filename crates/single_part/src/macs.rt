@@ -7,10 +7,9 @@ ghost use Rattle.service_calls.specs.Answers.{AnswersLength, plain_reply};
 ghost use Rattle.alg_encoding.specs.declared.table.Class.TheVariants.{Mac};
 ghost use Rattle.key_policy.specs.Names.{IsOfClass, NamesMac, is_cmac, whole_length, whole_mac_by};
 
-use alg_encoding::Alg;
 use cmac_ops::cmac;
 use hmac_ops::hmac;
-use key_policy::{MacAlgorithm, MacKind, TOTAL_LIMIT, aes_key, mac_algorithm};
+use key_policy::{MacAlgorithm, MacKind, NamedAlgorithm, TOTAL_LIMIT, aes_key};
 use multipart::{give_front, is_front, move_to_front};
 use psa_status::Status;
 
@@ -52,13 +51,13 @@ fn put_mac(mac: MacAlgorithm, key: &[u8], message: &[u8], out: &mut [u8; 64]) ->
 
 /// Writes the MAC of a message to the front of a buffer that has room for it, and answers its length. `InvalidArgument`
 /// where the message is longer than 2^32 - 1 bytes, and `BufferTooSmall`.
-pub fn mac_compute(alg: Alg, key: &[u8], input: &[u8], out: &mut [u8]) -> Result<usize, Status>
+pub fn mac_compute(alg: NamedAlgorithm, key: &[u8], input: &[u8], out: &mut [u8]) -> Result<usize, Status>
     requires algorithm { IsOfClass Mac alg.0 }
     requires key { base_of alg.0 ≡ cmac_base → IsKey key.now }
     ensures reply { AnswersLength result (mac_reply alg.0 key.now input.now (length out.old)) }
     ensures buffer { out.new ≡ buffer_after out.old (mac_reply alg.0 key.now input.now (length out.old)) }
 {
-    let mac = mac_algorithm(alg)?;
+    let mac = alg.mac()?;
     if input.len() > TOTAL_LIMIT {
         return Err(Status::InvalidArgument);
     }
@@ -72,12 +71,12 @@ pub fn mac_compute(alg: Alg, key: &[u8], input: &[u8], out: &mut [u8]) -> Result
 
 /// Compares a MAC with that of a message. `InvalidArgument` where the message is longer than 2^32 - 1 bytes, and
 /// `InvalidSignature` where a byte or the length differs.
-pub fn mac_verify(alg: Alg, key: &[u8], input: &[u8], mac: &[u8]) -> Result<(), Status>
+pub fn mac_verify(alg: NamedAlgorithm, key: &[u8], input: &[u8], mac: &[u8]) -> Result<(), Status>
     requires algorithm { IsOfClass Mac alg.0 }
     requires key { base_of alg.0 ≡ cmac_base → IsKey key.now }
     ensures { plain_reply result ≡ verified_reply alg.0 key.now input.now mac.now }
 {
-    let algorithm = mac_algorithm(alg)?;
+    let algorithm = alg.mac()?;
     if input.len() > TOTAL_LIMIT {
         return Err(Status::InvalidArgument);
     }

@@ -13,7 +13,7 @@ use crate::room::KeyRoom;
 use alg_encoding::Alg;
 use driver_dispatch::Driver;
 use key_attributes::KeyType;
-use key_policy::mac_algorithm;
+use key_policy::NamedAlgorithm;
 use psa_status::{Failed, Memory};
 use std::alloc::Global;
 use std::marker::Model;
@@ -182,7 +182,7 @@ impl Driver for SoftDriver {
         if self.is_listed() {
             return self.fail();
         }
-        let Ok(mac) = mac_algorithm(alg) else {
+        let Ok(mac) = NamedAlgorithm::of(alg).mac() else {
             return self.fail();
         };
         fill_mac(mac, self.room.key(handle), input, tag);
