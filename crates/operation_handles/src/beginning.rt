@@ -10,7 +10,7 @@ ghost use Rattle.operation_handles.specs.States.{AreInactive, AreStates};
 
 use crate::cell::Cell;
 use crate::states::FamilyStates;
-use alg_encoding::Alg;
+use key_policy::NamedAlgorithm;
 use psa_status::Status;
 use service_calls::{KeylessSetup, Purpose};
 use slot_table::Lease;
@@ -31,7 +31,12 @@ impl FamilyStates {
     }
 
     // Sets up an operation with the bytes of its key, which are for it: no state refuses them.
-    fn begin_with(&mut self, purpose: Purpose, alg: Alg, key: &[u8]) -> Result<(), Status>
+    fn begin_with(
+        &mut self,
+        purpose: Purpose,
+        alg: NamedAlgorithm,
+        key: &[u8],
+    ) -> Result<(), Status>
         requires fits { FitsUse (used_for purpose alg) key.now }
         ensures { (creation : KeyCreation) → AreInactive self.old →
             AreStates self.new (Some creation) (begun_with purpose alg creation key.now) }
@@ -63,7 +68,7 @@ impl Cell {
     }
 
     /// Sets up an inactive operation with its key, which may be used for it. The lease is kept.
-    pub fn begin_with(&mut self, purpose: Purpose, alg: Alg, lease: Lease)
+    pub fn begin_with(&mut self, purpose: Purpose, alg: NamedAlgorithm, lease: Lease)
         requires fits { FitsUse (used_for purpose alg) (bytes_of lease.buffer) }
         requires free { (operation : HandleOperation) → IsOperation self.old operation → operation ≡ Inactive }
         requires none { self.old.lease ≡ None }

@@ -12,7 +12,7 @@ pub use Rattle.service_calls.specs.Answers.{AnswersLength, AnswersOrSpoils}
 pub use Rattle.service_calls.specs.declared.store_calls.HashCall.TheVariants.{Compare, Compute}
 pub use Rattle.service_calls.specs.declared.store_calls.KeyedCall.{KeyedCall}
 pub use Rattle.service_calls.specs.declared.store_calls.KeyedCall.TheVariants.{AeadDecrypt, AeadEncrypt, CipherDecrypt, CipherEncrypt, Export, MacCompute, MacVerify}
-pub use Rattle.single_part.specs.Keyed.{computed_by, exported_reply, wanted_by}
+pub use Rattle.single_part.specs.Keyed.{algorithm_in, computed_by, exported_reply, wanted_by}
 pub use Rattle.single_part.specs.Laws.{DrawsAVector, DrawsOnSuccess, HashCallsAreTheModels, HashCallsRead, KeyedCallsAreTheModels, KeyedCallsRead}
 pub use Rattle.std.proofs.Math.Seq.{take-append-add, take-append_seam}
 pub use Rattle.std.proofs.lemmas.Result.{err_from_is_err_and}

@@ -1,6 +1,7 @@
 -- Calls in one part that compute with a key's bytes: for what use of the key, and what is computed.
 use Rattle.std.specs.Prelude.{ℕ, List, length}
 use Rattle.psa_status.specs.Rows.{first_row}
+use Rattle.alg_encoding.specs.declared.algorithm.Alg.{Alg}
 use Rattle.store_model.specs.Prelude.{opened_reply, sealed_reply, Reply, decrypted_reply, encrypted, iv_length, mode_of, Random, mac_reply, verified_reply, Computed, given, replies, reply_unless, room_rows}
 use Rattle.key_policy.specs.declared.key_use.KeyUse.{KeyUse}
 use Rattle.key_policy.specs.declared.key_use.KeyUse.TheVariants.{Export}
@@ -8,6 +9,16 @@ use Rattle.key_policy.specs.Uses.{used_for}
 use Rattle.service_calls.specs.declared.handle_calls.Purpose.TheVariants.{SignMac, VerifyMac, EncryptCipher, DecryptCipher, EncryptAead, DecryptAead}
 use Rattle.service_calls.specs.declared.store_calls.KeyedCall.{KeyedCall}
 use Rattle.service_calls.specs.declared.store_calls.KeyedCall.TheVariants as call
+
+-- the number of a call's algorithm; an export names none
+abbrev pub algorithm_in : KeyedCall → Alg
+algorithm_in call.Export = record { 0 = 0 }
+algorithm_in (call.MacCompute alg input) = alg
+algorithm_in (call.MacVerify alg input mac) = alg
+algorithm_in (call.CipherEncrypt alg input) = alg
+algorithm_in (call.CipherDecrypt alg input) = alg
+algorithm_in (call.AeadEncrypt alg nonce ad input) = alg
+algorithm_in (call.AeadDecrypt alg nonce ad input) = alg
 
 -- what a call looks its key for
 abbrev pub wanted_by : KeyedCall → KeyUse

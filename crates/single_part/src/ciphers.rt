@@ -11,8 +11,8 @@ ghost use Rattle.key_policy.specs.Names.{IsOfClass};
 
 use crate::modes::{decipher, encipher_behind};
 use key_policy::{
-    Mode, NamedAlgorithm, TOTAL_LIMIT, aes_key, enciphered_length, is_ciphertext_length,
-    iv_length, takes_whole_blocks,
+    Mode, NamedAlgorithm, TOTAL_LIMIT, aes_key, enciphered_length, is_ciphertext_length, iv_length,
+    takes_whole_blocks,
 };
 use psa_status::Status;
 use random_streams::Stream;
@@ -121,7 +121,12 @@ fn decrypt(mode: Mode, key: &[u8], input: &[u8], out: &mut [u8]) -> Result<usize
 /// room for the whole ciphertext, and answers the text's length. `InvalidPadding` where no padding ends the text and one
 /// should: the buffer then has zeros in its place. `InvalidArgument` where the algorithm doesn't take so many bytes, and
 /// `BufferTooSmall`.
-pub fn cipher_decrypt(alg: NamedAlgorithm, key: &[u8], input: &[u8], out: &mut [u8]) -> Result<usize, Status>
+pub fn cipher_decrypt(
+    alg: NamedAlgorithm,
+    key: &[u8],
+    input: &[u8],
+    out: &mut [u8],
+) -> Result<usize, Status>
     requires algorithm { IsOfClass Cipher alg.0 }
     requires key { IsKey key.now }
     ensures reply { AnswersOrSpoils result (decrypted_reply (mode_of alg.0) key.now input.now (length out.old)) }

@@ -9,6 +9,7 @@ ghost use Rattle.secure_element_calls.specs.Calls.{model_call};
 ghost use Rattle.secure_element_calls.specs.Replies.{HasDrawn};
 ghost use Rattle.single_part.specs.Elements.{IsElementCall, has_vector, is_of_element, takes_vector};
 
+use crate::computation::Computation;
 use alg_encoding::Alg;
 use psa_status::Status;
 use secure_element_calls::{ElementCall, NotComputed};
@@ -16,71 +17,76 @@ use service_calls::{KeyedCall, Output};
 
 const CTR: Alg = Alg(0x04c0_1000);
 
-/// Whether a call begins with a fresh initialisation vector, which it draws where it succeeds; that of ECB has no bytes.
-pub fn takes_vector(call: &KeyedCall<'_>) -> bool
-    ensures { result ≡ takes_vector call.now }
-{
-    match *call {
-        KeyedCall::CipherEncrypt { .. } => true,
-        _ => false,
-    }
-}
-
-/// Whether the secure element computes such a call, and on a fresh initialisation vector.
-pub fn needs_vector(call: &KeyedCall<'_>) -> bool
-    ensures { result ≡ (takes_vector call.now && is_of_element call.now) }
-{
-    match *call {
-        KeyedCall::CipherEncrypt { alg, .. } => alg == CTR,
-        _ => false,
-    }
-}
-
-/// A call as the secure element computes it, on a fresh initialisation vector of these bytes where it takes one; `None` where
-/// the element computes no such call.
-pub fn element_call<'a>(call: &KeyedCall<'a>, vector: &'a [u8; 16]) -> Option<ElementCall<'a>>
-    ensures is { is_some result ≡ is_of_element call.now }
-    ensures call { IfSome result (λ element. IsElementCall call.now element) }
-    ensures model { IfSome result (λ element. (id room : ℕ) → model_keyed_call call.now id room ≡ model_call element id room) }
-    ensures vector { IfSome result (λ element. HasDrawn element vector.now) }
-    ensures draws { IfSome result (λ element. has_vector element ≡ takes_vector call.now) }
-{
-    match *call {
-        KeyedCall::MacCompute { alg, input } => Some(ElementCall::MacCompute { alg, input }),
-        KeyedCall::MacVerify { alg, input, mac } => Some(ElementCall::MacVerify {
-            alg,
-            input,
-            mac,
-        }),
-        KeyedCall::CipherEncrypt { alg, input } => {
-            if alg != CTR {
-                return None;
-            }
-            Some(ElementCall::CtrEncrypt { iv: vector, input })
+impl<'a> Computation<'a> {
+    /// Whether the call begins with a fresh initialisation vector, which it draws where it succeeds; that of ECB has no bytes.
+    pub fn takes_vector(&self) -> bool
+        ensures { result ≡ takes_vector self.now.call }
+    {
+        match self.asked.call {
+            KeyedCall::CipherEncrypt { .. } => true,
+            _ => false,
         }
-        KeyedCall::CipherDecrypt { alg, input } => {
-            if alg != CTR {
-                return None;
-            }
-            Some(ElementCall::CtrDecrypt { input })
-        }
-        KeyedCall::Export | KeyedCall::AeadEncrypt { .. } | KeyedCall::AeadDecrypt { .. } => None,
     }
-}
 
-/// What a call answers that the secure element computed, or for which it failed.
-pub fn computed_output(
-    call: &KeyedCall<'_>,
-    computed: Result<usize, NotComputed>,
-) -> Result<Output, Status>
-    ensures reply { (element : ElementCall) (reply : Reply) → IsElementCall call.now element → AnswersCall element computed reply → AnswersReply result reply }
-    ensures failure { MatchResult computed (λ length. is_ok result ≡ true) (λ why. result ≡ Err (status_of why)) }
-{
-    match computed {
-        Ok(length) => match *call {
-            KeyedCall::MacVerify { .. } => Ok(Output::Done),
-            _ => Ok(Output::Bytes(length)),
-        },
-        Err(why) => Err(why.status()),
+    /// Whether the secure element computes such a call, and on a fresh initialisation vector.
+    pub fn needs_vector(&self) -> bool
+        ensures { result ≡ (takes_vector self.now.call && is_of_element self.now.call) }
+    {
+        match self.asked.call {
+            KeyedCall::CipherEncrypt { alg, .. } => alg == CTR,
+            _ => false,
+        }
+    }
+
+    /// The call as the secure element computes it, on a fresh initialisation vector of these bytes where it takes one; `None`
+    /// where the element computes no such call.
+    pub fn element_call(&self, vector: &'a [u8; 16]) -> Option<ElementCall<'a>>
+        ensures is { is_some result ≡ is_of_element self.now.call }
+        ensures call { IfSome result (λ element. IsElementCall self.now.call element) }
+        ensures model { IfSome result (λ element. (id room : ℕ) → model_keyed_call self.now.call id room ≡ model_call element id room) }
+        ensures vector { IfSome result (λ element. HasDrawn element vector.now) }
+        ensures draws { IfSome result (λ element. has_vector element ≡ takes_vector self.now.call) }
+    {
+        let named = self.alg;
+        match self.asked.call {
+            KeyedCall::MacCompute { input, .. } => Some(ElementCall::MacCompute {
+                alg: named,
+                input,
+            }),
+            KeyedCall::MacVerify { input, mac, .. } => Some(ElementCall::MacVerify {
+                alg: named,
+                input,
+                mac,
+            }),
+            KeyedCall::CipherEncrypt { alg, input } => {
+                if alg != CTR {
+                    return None;
+                }
+                Some(ElementCall::CtrEncrypt { iv: vector, input })
+            }
+            KeyedCall::CipherDecrypt { alg, input } => {
+                if alg != CTR {
+                    return None;
+                }
+                Some(ElementCall::CtrDecrypt { input })
+            }
+            KeyedCall::Export | KeyedCall::AeadEncrypt { .. } | KeyedCall::AeadDecrypt { .. } => {
+                None
+            }
+        }
+    }
+
+    /// What the call answers that the secure element computed, or for which it failed.
+    pub fn computed_output(&self, computed: Result<usize, NotComputed>) -> Result<Output, Status>
+        ensures reply { (element : ElementCall) (reply : Reply) → IsElementCall self.now.call element → AnswersCall element computed reply → AnswersReply result reply }
+        ensures failure { MatchResult computed (λ length. is_ok result ≡ true) (λ why. result ≡ Err (status_of why)) }
+    {
+        match computed {
+            Ok(length) => match self.asked.call {
+                KeyedCall::MacVerify { .. } => Ok(Output::Done),
+                _ => Ok(Output::Bytes(length)),
+            },
+            Err(why) => Err(why.status()),
+        }
     }
 }

@@ -5,6 +5,7 @@
 
 mod aeads;
 mod ciphers;
+mod computation;
 mod computing;
 mod elements;
 mod hashes;
@@ -12,16 +13,13 @@ mod hashing;
 mod laws;
 mod macs;
 mod modes;
-mod wanting;
 
 pub use aeads::{aead_decrypt, aead_encrypt};
 pub use ciphers::{cipher_decrypt, cipher_encrypt};
-pub use computing::compute;
-pub use elements::{computed_output, element_call, needs_vector, takes_vector};
+pub use computation::Computation;
 pub use hashes::{hash_compare, hash_compute};
 pub use hashing::compute_hash;
 pub use laws::{
     hash_calls_are_the_models, keyed_calls_are_the_models, keyed_calls_draw, keyed_calls_read,
 };
 pub use macs::{mac_compute, mac_verify};
-pub use wanting::wanted;

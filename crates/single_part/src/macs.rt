@@ -51,7 +51,12 @@ fn put_mac(mac: MacAlgorithm, key: &[u8], message: &[u8], out: &mut [u8; 64]) ->
 
 /// Writes the MAC of a message to the front of a buffer that has room for it, and answers its length. `InvalidArgument`
 /// where the message is longer than 2^32 - 1 bytes, and `BufferTooSmall`.
-pub fn mac_compute(alg: NamedAlgorithm, key: &[u8], input: &[u8], out: &mut [u8]) -> Result<usize, Status>
+pub fn mac_compute(
+    alg: NamedAlgorithm,
+    key: &[u8],
+    input: &[u8],
+    out: &mut [u8],
+) -> Result<usize, Status>
     requires algorithm { IsOfClass Mac alg.0 }
     requires key { base_of alg.0 ≡ cmac_base → IsKey key.now }
     ensures reply { AnswersLength result (mac_reply alg.0 key.now input.now (length out.old)) }

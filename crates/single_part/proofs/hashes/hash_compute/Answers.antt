@@ -35,13 +35,13 @@ module _ (alg room : ℕ) (which : Hash) (names : NamesHash alg which) (none : N
 pub returns-in_err-which : goal.returns-in_err-which
 returns-in_err-which c =
     let p = err_from_is_err_and c.from_residual.result c.from_residual.ensures.1 in
-    let none = no_hash c.args.alg.0 (length c.args.out.now) _ c.in_err-which.ensures.refusal in
+    let none = no_hash c.args.alg.0 (length c.args.out.now) _ (rw c.of.ensures at c.in_err-which.ensures.refusal) in
     record { reply = refused_length c.from_residual.result _ _ p.0 c.in_err-which.field-0.0 p.1 p.2 none; buffer = refused_buffer c.args.out.now _ _ _ none }
 
 pub returns : goal.returns
 returns c =
-    let which = c.in_ok-which in
+    let which = c.in_ok-which in let names = rw c.of.ensures at which.ensures.names in let none = rw c.of.ensures at which.ensures.refusal in
     let text = take c.hash-length.result c.hash-length.new.out in record {
-      reply = hashed_length c.args.alg.0 (length c.args.out.now) which.which which.ensures.names which.ensures.refusal c.args.input.now text c.hash-length.ensures.digest c.give_front.result c.give_front.ensures.refusal c.give_front.ensures.length;
-      buffer = hashed_buffer c.args.alg.0 (length c.args.out.now) which.which which.ensures.names which.ensures.refusal c.args.input.now text c.hash-length.ensures.digest c.args.out.now c.give_front.new.out c.give_front.ensures.buffer;
+      reply = hashed_length c.args.alg.0 (length c.args.out.now) which.which names none c.args.input.now text c.hash-length.ensures.digest c.give_front.result c.give_front.ensures.refusal c.give_front.ensures.length;
+      buffer = hashed_buffer c.args.alg.0 (length c.args.out.now) which.which names none c.args.input.now text c.hash-length.ensures.digest c.args.out.now c.give_front.new.out c.give_front.ensures.buffer;
     }
