@@ -14,7 +14,7 @@ ghost use Rattle.operation_handles.specs.declared.cell.Cell as cell;
 ghost use Rattle.callers.specs.Handles.{AreOperations, HoldsLease, IsChanged, operation_at};
 ghost use Rattle.callers.specs.HandleCalls.{stepped_at};
 
-use alg_encoding::Alg;
+use key_policy::NamedAlgorithm;
 use operation_handles::Cell;
 use psa_status::Status;
 use random_streams::Stream;
@@ -70,7 +70,7 @@ impl Handles {
     }
 
     /// Sets up an inactive operation with its key, which may be used for it, and keeps the key's lease.
-    pub fn begin_with(&mut self, op: Op, purpose: Purpose, alg: Alg, lease: Lease)
+    pub fn begin_with(&mut self, op: Op, purpose: Purpose, alg: NamedAlgorithm, lease: Lease)
         requires fits { FitsUse (used_for purpose alg) (bytes_of lease.buffer) }
         requires free { (c : cell.Cell) (operation : HandleOperation) → c ≡ get_or self.old.cells.items (op - 1) c → IsOperation c operation → operation ≡ Inactive }
         requires none { (c : cell.Cell) → c ≡ get_or self.old.cells.items (op - 1) c → c.lease ≡ None }

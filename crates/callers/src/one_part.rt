@@ -26,21 +26,19 @@ use locked_store::{Looked, SharedStore};
 use psa_status::Status;
 use random_streams::Stream;
 use secure_element_calls::{ElementCall, NotComputed};
-use service_calls::{Call, HashCall, Keyed, KeyedCall, Output};
-use single_part::{
-    compute, compute_hash, computed_output, element_call, needs_vector, takes_vector, wanted,
-};
+use service_calls::{Call, HashCall, Keyed, Output};
+use single_part::{Computation, compute_hash};
 use slot_table::Lease;
 use std::sync::Wait;
 
 // The initialisation vector that a call would draw next, where the secure element may compute on it. Nothing is drawn.
-fn next_vector(call: &KeyedCall<'_>, stream: &mut Stream) -> [u8; 16]
+fn next_vector(asked: &Computation<'_>, stream: &mut Stream) -> [u8; 16]
     requires words { stream.old.place + 256 ≤ 2 ^ 60 }
-    ensures vector { (takes_vector call.now && is_of_element call.now) ≡ true → result ≡ next_bytes stream.old 16 }
+    ensures vector { (takes_vector asked.now.call && is_of_element asked.now.call) ≡ true → result ≡ next_bytes stream.old 16 }
     ensures same { stream.new ≡ stream.old }
 {
     let mut vector = [0; 16];
-    if needs_vector(call) {
+    if asked.needs_vector() {
         let place = stream.place();
         stream.fill(&mut vector);
         stream.go_back(place);
@@ -49,11 +47,11 @@ fn next_vector(call: &KeyedCall<'_>, stream: &mut Stream) -> [u8; 16]
 }
 
 // Draws the initialisation vector with which the secure element has computed, where it took one.
-fn draw_vector(call: &KeyedCall<'_>, computed: &Result<usize, NotComputed>, stream: &mut Stream)
+fn draw_vector(asked: &Computation<'_>, computed: &Result<usize, NotComputed>, stream: &mut Stream)
     requires words { stream.old.place + 256 ≤ 2 ^ 60 }
-    ensures { stream.new ≡ drawn_from stream.old (drawn_by call.now (is_ok computed.now)) }
+    ensures { stream.new ≡ drawn_from stream.old (drawn_by asked.now.call (is_ok computed.now)) }
 {
-    if computed.is_ok() && takes_vector(call) {
+    if computed.is_ok() && asked.takes_vector() {
         stream.fill(&mut [0; 16]);
     }
 }
@@ -98,11 +96,11 @@ impl<D: Disk, A: Devices, C: Admission> Caller<D, A, C> {
         ensures spent { self.new.spent ≡ self.old.spent }
         ensures handles { self.new.handles ≡ self.old.handles }
     {
-        let vector = next_vector(&asked.call, &mut self.stream);
-        let here = asked.call;
-        match element_call(&here, &vector) {
-            Some(element) => self.compute_or_look(rt, shared, gate, call, asked, &element, out),
-            None => self.look_and_compute(rt, shared, gate, call, asked, out),
+        let asked = Computation::of(*asked);
+        let vector = next_vector(&asked, &mut self.stream);
+        match asked.element_call(&vector) {
+            Some(element) => self.compute_or_look(rt, shared, gate, call, &asked, &element, out),
+            None => self.look_and_compute(rt, shared, gate, call, &asked, out),
         }
     }
 
@@ -113,7 +111,7 @@ impl<D: Disk, A: Devices, C: Admission> Caller<D, A, C> {
         shared: &SharedStore<D, A, C>,
         gate: &G,
         call: &Call<'_>,
-        asked: &Keyed<'_>,
+        asked: &Computation<'_>,
         out: &mut [u8],
     ) -> (u64, Result<Output, Status>)
         requires ready { IsReady (world shared.now) 4 self.old }
@@ -127,21 +125,18 @@ impl<D: Disk, A: Devices, C: Admission> Caller<D, A, C> {
         let Some(spare) = self.spares.pop() else {
             unreachable!()
         };
-        let usage = wanted(&asked.call);
+        let usage = asked.wanted();
         let (rank, looked) = shared.look(
             rt,
             &mut self.pass,
             call,
             out.len(),
-            asked.key,
+            asked.key(),
             usage,
             spare,
         );
         match looked {
-            Ok(lease) => (
-                rank,
-                self.compute_with(rt, shared, gate, &asked.call, lease, out),
-            ),
+            Ok(lease) => (rank, self.compute_with(rt, shared, gate, asked, lease, out)),
             Err((status, spare)) => {
                 self.spares.push_reserved(spare);
                 (rank, Err(status))
@@ -156,7 +151,7 @@ impl<D: Disk, A: Devices, C: Admission> Caller<D, A, C> {
         shared: &SharedStore<D, A, C>,
         gate: &G,
         call: &Call<'_>,
-        asked: &Keyed<'_>,
+        asked: &Computation<'_>,
         element: &ElementCall<'_>,
         out: &mut [u8],
     ) -> (u64, Result<Output, Status>)
@@ -174,12 +169,12 @@ impl<D: Disk, A: Devices, C: Admission> Caller<D, A, C> {
         let Some(spare) = self.spares.pop() else {
             unreachable!()
         };
-        let usage = wanted(&asked.call);
+        let usage = asked.wanted();
         let (rank, looked) = shared.look_or_compute(
             rt,
             &mut self.pass,
             call,
-            asked.key,
+            asked.key(),
             usage,
             spare,
             element,
@@ -188,13 +183,10 @@ impl<D: Disk, A: Devices, C: Admission> Caller<D, A, C> {
         match looked {
             Looked::Computed(computed, spare) => {
                 self.spares.push_reserved(spare);
-                draw_vector(&asked.call, &computed, &mut self.stream);
-                (rank, computed_output(&asked.call, computed))
+                draw_vector(asked, &computed, &mut self.stream);
+                (rank, asked.computed_output(computed))
             }
-            Looked::Lent(lease) => (
-                rank,
-                self.compute_with(rt, shared, gate, &asked.call, lease, out),
-            ),
+            Looked::Lent(lease) => (rank, self.compute_with(rt, shared, gate, asked, lease, out)),
             Looked::Refused(status, spare) => {
                 self.spares.push_reserved(spare);
                 (rank, Err(status))
@@ -208,11 +200,11 @@ impl<D: Disk, A: Devices, C: Admission> Caller<D, A, C> {
         rt: &R,
         shared: &SharedStore<D, A, C>,
         gate: &G,
-        asked: &KeyedCall<'_>,
+        asked: &Computation<'_>,
         lease: Lease,
         out: &mut [u8],
     ) -> Result<Output, Status>
-        requires fits { FitsUse (wanted_by asked.now) (bytes_of lease.buffer) }
+        requires fits { FitsUse (wanted_by asked.now.call) (bytes_of lease.buffer) }
         requires words { self.old.stream.place + 256 ≤ 2 ^ 60 }
         requires at { IsAt (world shared.now) self.old.pass }
         requires number { self.old.pass.me.0.number ≡ self.old.number }
@@ -222,11 +214,11 @@ impl<D: Disk, A: Devices, C: Admission> Caller<D, A, C> {
         requires room { vec_len self.old.spares < vec_capacity self.old.spares }
         ensures at { IsAt (world shared.now) self.new.pass }
         ensures legal { Legal (world shared.now) (entries_of self.new.pass.me.0.seen) }
-        ensures fits { IsReplied result out.old out.new (computed_by asked.now (bytes_of lease.buffer) (next_bytes self.old.stream) (length out.old)).reply }
-        ensures back { IsGivenBack lease (record self.old { stream = drawn_from self.old.stream (computed_by asked.now (bytes_of lease.buffer) (next_bytes self.old.stream) (length out.old)).drawn }) self.new }
+        ensures fits { IsReplied result out.old out.new (computed_by asked.now.call (bytes_of lease.buffer) (next_bytes self.old.stream) (length out.old)).reply }
+        ensures back { IsGivenBack lease (record self.old { stream = drawn_from self.old.stream (computed_by asked.now.call (bytes_of lease.buffer) (next_bytes self.old.stream) (length out.old)).drawn }) self.new }
     {
         gate.hold(self.number, &self.pass, GatePoint::Reading);
-        let result = compute(asked, lease.as_slice(), &mut self.stream, out);
+        let result = asked.compute(lease.as_slice(), &mut self.stream, out);
         self.give_back(rt, shared, Some(lease));
         result
     }

@@ -17,7 +17,7 @@ use crate::gates::{Gate, GatePoint};
 use admission::Admission;
 use disk_face::Disk;
 use driver_dispatch::Devices;
-use key_policy::KeyUse;
+use key_policy::{KeyUse, NamedAlgorithm};
 use locked_store::SharedStore;
 use psa_status::Status;
 use service_calls::{Call, KeyedSetup, KeylessSetup, Op, Output, Setup, Step};
@@ -105,12 +105,13 @@ impl<D: Disk, A: Devices, C: Admission> Caller<D, A, C> {
         let Some(spare) = self.spares.pop() else {
             unreachable!()
         };
-        let usage = KeyUse::of_purpose(setup.purpose, setup.alg);
+        let alg = NamedAlgorithm::of(setup.alg);
+        let usage = KeyUse::of_purpose(setup.purpose, alg);
         let (rank, looked) = shared.look(rt, &mut self.pass, call, room, setup.key, usage, spare);
         match looked {
             Ok(lease) => {
                 gate.hold(self.number, &self.pass, GatePoint::Reading);
-                self.handles.begin_with(op, setup.purpose, setup.alg, lease);
+                self.handles.begin_with(op, setup.purpose, alg, lease);
                 self.spent += 1;
                 (rank, Ok(Output::Done))
             }

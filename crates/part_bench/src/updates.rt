@@ -3,7 +3,7 @@ use crate::jobs::Family;
 use aead_states::AeadState;
 use alg_encoding::Alg;
 use cipher_states::CipherState;
-use key_policy::{aead_algorithm, cipher_algorithm, mac_algorithm};
+use key_policy::NamedAlgorithm;
 use mac_states::{HashOpState, MacState};
 use multipart::Family as _;
 use psa_status::Status;
@@ -58,19 +58,19 @@ impl States {
 
     // Begins a family's operation anew: the lengths of CCM, and a vector or a nonce, come before the text.
     fn begin(&mut self, family: Family) -> Result<(), Status> {
-        let alg = family.algorithm();
+        let alg = NamedAlgorithm::of(family.algorithm());
         match family {
             Family::Sha256 => {
                 self.hash.wipe();
-                self.hash.hash_setup(alg)
+                self.hash.hash_setup(alg.number())
             }
             Family::Hmac | Family::Cmac => {
-                mac_algorithm(alg)?;
+                alg.mac()?;
                 self.mac.wipe();
                 self.mac.mac_sign_setup(&KEY, alg)
             }
             Family::Ctr | Family::Cbc => {
-                cipher_algorithm(alg)?;
+                alg.cipher()?;
                 self.cipher.wipe();
                 self.cipher.cipher_encrypt_setup(&KEY, alg)?;
                 self.cipher
@@ -78,7 +78,7 @@ impl States {
                 Ok(())
             }
             Family::Gcm | Family::Ccm => {
-                aead_algorithm(alg)?;
+                alg.aead()?;
                 self.aead.wipe();
                 self.aead.aead_encrypt_setup(&KEY, alg)?;
                 self.set_nonce(family)

@@ -1,5 +1,5 @@
 use Rattle.std.proofs.Common.{IfSome, ap, arith, is_some, refl, subst, sym, ◌+◌, ◌∙◌, ◌∷◌, ◌≡◌}
-use Rattle.callers.proofs.Common.{All-pop, DecidesAfter, Inactive, IsClear, IsLent, IsRanked, IsRefused, Plain, false≢true, lease_pair, mark_of, model_request, use_refusal, world}
+use Rattle.callers.proofs.Common.{All-pop, DecidesAfter, Inactive, IsClear, IsLent, IsRanked, IsRefused, Plain, false≢true, lease_pair, mark_of, model_request, use_refusal, used_for, world}
 use Rattle.callers.proofs.Beginning.{at_handle, lent_answered, lent_ready, reads_key, refuses, stayed_answered, stayed_ready}
 use Rattle.callers.proofs.Failing.{refused_tells, use_plainly}
 use Rattle.callers.proofs.Looking.{has_room_for_lease, has_spare, popped, put_back}
@@ -27,10 +27,10 @@ pub returns-in-Ok : goal.returns-in-Ok
 returns-in-Ok g c =
     let w = world c.args.shared.now in let old = c.args.self.now in let r = c.requires.ready in let request = model_request c.args.call.now c.args.room in let asks = ap (λ x. model_request x c.args.room) c.requires.call in
     let first = c.requires.first in let last = c.requires.last in let free = at_handle (λ o. o ≡ Inactive) old.handles.cells.items r.operations c.args.op r.stand first last c.requires.free in
-    let usage = c.of_purpose-usage.result in let uses = c.of_purpose-usage.ensures in let lease = c.in-Ok.lease in
+    let usage = c.of_purpose-usage.result in let uses = c.of_purpose-usage.ensures ∙ ap (used_for c.args.setup.purpose) c.of-alg.ensures in let lease = c.in-Ok.lease in
     let looked = if_ok (λ lease. IsRanked old.pass.me.0 c.look-rank.new.pass.me.0 request Plain c.look-rank.result.0 (lease_pair lease ∷ old.pass.me.0.holding) (DecidesAfter w (IsLent (use_refusal usage) c.args.setup.key.0 lease))) c.look-rank.result.1 c.in-Ok.is c.look-rank.ensures.lent in
     let new = record old { pass = c.look-rank.new.pass; spares = c.pop.new.self; handles = c.begin_with.new.self; spent = old.spent + 1 } in record {
-      ready = lent_ready w old new r looked.after.entered first last c.args.setup usage asks uses free lease refl looked.after.decided (c.begin_with.ensures.kept r.operations (record { id = c.args.setup.key.0; number = lease.creation }) r.stand refl) refl refl refl refl
+      ready = lent_ready w old new r looked.after.entered first last c.args.setup usage asks uses free lease refl looked.after.decided (rw c.of-alg.ensures at (c.begin_with.ensures.kept r.operations (record { id = c.args.setup.key.0; number = lease.creation }) r.stand refl)) refl refl refl refl
           (popped old.spares c.pop.new.self c.in-Some.is c.pop.ensures.items c.pop.ensures.capacity r.clear) c.requires.worn c.look-rank.ensures.at c.look-rank.ensures.legal;
       answered = lent_answered w old new r looked.after.entered first last c.args.setup usage asks uses free lease refl looked.after.decided;
       spent = refl;
@@ -40,7 +40,7 @@ pub returns-in-Err : goal.returns-in-Err
 returns-in-Err g c =
     let w = world c.args.shared.now in let old = c.args.self.now in let r = c.requires.ready in let request = model_request c.args.call.now c.args.room in let asks = ap (λ x. model_request x c.args.room) c.requires.call in
     let first = c.requires.first in let last = c.requires.last in let free = at_handle (λ o. o ≡ Inactive) old.handles.cells.items r.operations c.args.op r.stand first last c.requires.free in
-    let usage = c.of_purpose-usage.result in let uses = c.of_purpose-usage.ensures in let why = c.in-Err.status in
+    let usage = c.of_purpose-usage.result in let uses = c.of_purpose-usage.ensures ∙ ap (used_for c.args.setup.purpose) c.of-alg.ensures in let why = c.in-Err.status in
     let looked = if_err (λ refused. IsRanked old.pass.me.0 c.look-rank.new.pass.me.0 request (mark_of refused.0) c.look-rank.result.0 old.pass.me.0.holding (DecidesAfter w (IsRefused (use_refusal usage) c.args.setup.key.0 refused.0))) c.look-rank.result.1 c.in-Err.is c.look-rank.ensures.refused in
     let new = record old { pass = c.look-rank.new.pass; spares = c.push_reserved.new.self } in let applies = refuses w old new r looked.after.entered first last c.args.setup usage asks uses free why refl looked.after.decided in record {
       ready = stayed_ready w old new r looked.after.entered first last Inactive free why applies refl refl refl refl refl
