@@ -9,6 +9,8 @@ use Rattle.key_attributes.specs.declared.Attributes.{Attributes}
 use Rattle.secret_bytes.specs.Buffer.{bytes_of}
 use Rattle.key_cells.specs.declared.slot.Slot as cell
 use Rattle.key_cells.specs.declared.slot.Slot.TheVariants.{Free}
+use Rattle.key_cells.specs.declared.cells.CellFault.{CellFault}
+use Rattle.key_cells.specs.declared.cells.CellFault.TheVariants as cell_fault
 use Rattle.key_cells.specs.Prelude.{cell_slot, has_id}
 use Rattle.driver_dispatch.specs.Held.{HeldKeys, without_key}
 use Rattle.slot_table.specs.Slots.{Slot, empty_slot, holds_key, slot_at}
@@ -29,6 +31,11 @@ abbrev pub status_of : Unread → Status
 status_of Missing = InvalidHandle
 status_of Disk = StorageFailure
 status_of Corrupt = DataCorrupt
+
+-- why a key is unread whose cell could not be loaded
+abbrev pub unread_by : CellFault → Unread
+unread_by cell_fault.Corrupt = Corrupt
+unread_by _ = Disk
 
 -- the mark of a turn that was refused so as it looked for a key
 abbrev pub mark_of : Status → FaultMark

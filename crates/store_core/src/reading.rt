@@ -9,7 +9,7 @@ ghost use Rattle.slot_states.specs.declared.SlotState.TheVariants.{Full};
 ghost use Rattle.slot_table.specs.Slots.{slot_at, NoKey};
 ghost use Rattle.key_slots.specs.Wiping.{TakesOne};
 ghost use Rattle.store_core.specs.Represents.{Brings, Stands};
-ghost use Rattle.store_core.specs.Uses.{HasPersistent, IsBrought, KeepsOrEmpties, status_of};
+ghost use Rattle.store_core.specs.Uses.{HasPersistent, IsBrought, KeepsOrEmpties, status_of, unread_by};
 ghost use Rattle.store_core.specs.declared.reading.Unread.TheVariants as unread;
 
 use crate::Store;
@@ -37,6 +37,16 @@ impl Unread {
             Unread::Missing => Status::InvalidHandle,
             Unread::Disk => Status::StorageFailure,
             Unread::Corrupt => Status::DataCorrupt,
+        }
+    }
+
+    // Why a key isn't there that was not loaded. No cell is full that is read.
+    fn of(fault: CellFault) -> Unread
+        ensures { result ≡ unread_by fault }
+    {
+        match fault {
+            CellFault::Corrupt => Unread::Corrupt,
+            CellFault::Disk | CellFault::Full => Unread::Disk,
         }
     }
 }
@@ -130,11 +140,7 @@ impl<D: Disk, A: Devices, C: Admission> Store<D, A, C> {
             }
             Err(fault) => {
                 self.slots.give_up(filling);
-                match fault {
-                    CellFault::Disk => Err(Unread::Disk),
-                    CellFault::Corrupt => Err(Unread::Corrupt),
-                    CellFault::Full => Err(Unread::Disk),
-                }
+                Err(Unread::of(fault))
             }
         }
     }

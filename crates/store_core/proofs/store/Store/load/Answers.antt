@@ -1,11 +1,35 @@
-use Rattle.std.proofs.Common.{List, Some, [], ap, arith, inl, refl, subst, sym, true, ℕ, ◌∙◌, ◌∷◌, ◌≡◌}
+use Rattle.std.proofs.Common.{Bool, Err, IsErrOf, List, Some, [], false, is_some, ap, arith, inl, refl, subst, sym, true, ℕ, ◌∙◌, ◌∷◌, ◌≡◌}
 use Rattle.store_core.proofs.Common.{IsKeyOf, Pairs, always_found, cell_slot, course_of, creation_of_slot, durable_keys, is_persistent_key, slot_at, stored}
 use Rattle.std.specs.FinMap as map
 use Rattle.key_slots.proofs.Pairs.{was_out}
 use Rattle.store_core.proofs.Kept.{key_of_cell, is_persistent}
 use Rattle.store_core.proofs.Loading.{IsLoaded, brings, loads, filled_has, stays_put, gains_one}
 use Rattle.store_core.proofs.Ending.{load_ends, load_empties}
+use Rattle.key_cells.specs.declared.cells.CellFault.{CellFault}
+use Rattle.key_cells.specs.declared.cells.CellFault.TheVariants as file
+use Rattle.store_core.specs.Uses.{unread_by}
+use Rattle.store_core.specs.declared.reading.Unread.{Unread}
+use Rattle.store_core.specs.declared.reading.Unread.TheVariants.{Missing, Disk, Corrupt}
 use Rattle.store_core.proofs.store.Store.load.Goals as goal
+
+never_missing : (fault : CellFault) → IsErrOf {T = ℕ} {E = Unread} (Err (unread_by fault)) Missing → ⊥
+never_missing file.Disk e = cc
+never_missing file.Corrupt e = cc
+never_missing file.Full e = cc
+
+from_disk : (fault : CellFault) → IsErrOf {T = ℕ} {E = Unread} (Err (unread_by fault)) Disk → (fault ≡ file.Full → ⊥) → fault ≡ file.Disk
+from_disk file.Disk e low = refl
+from_disk file.Corrupt e low = cc
+from_disk file.Full e low = absurd (low refl)
+
+from_corrupt : (fault : CellFault) → IsErrOf {T = ℕ} {E = Unread} (Err (unread_by fault)) Corrupt → fault ≡ file.Corrupt
+from_corrupt file.Disk e = cc
+from_corrupt file.Corrupt e = refl
+from_corrupt file.Full e = cc
+
+is_false : (b : Bool) → (b ≡ true → ⊥) → b ≡ false
+is_false true never = absurd (never refl)
+is_false false never = refl
 
 pub reserve-filling-requires : goal.reserve-filling-requires
 reserve-filling-requires g c =
@@ -63,55 +87,54 @@ returns-in-Ok-clause-found g c = λ start opening h all e s is.
       ),
     )
 
-pub returns-in-Disk-clause-unread : goal.returns-in-Disk-clause-unread
-returns-in-Disk-clause-unread g c = λ failed start opening h all e s is.
-    let old = c.args.self.now in
-    let slot = c.reserve-filling.result.slot in
-    let more : List Pairs = ((slot, 0) ∷ []) ∷ all in
-    let gains = gains_one all (slot, 0) in
-    let m = s.holds.model in
-    let sized = s.holds.directory.sized in
-    let there = c.requires.there.within in
-    let key = key_of_cell old.file.cells.slots.items m c.args.id.0 c.args.cell s.holds.directory (omega arith) c.requires.there.here in
-    brings g.D.Disk g.A.Devices g.C.Admission old c.load.new.self c.give_up.new.self c.load.new.out start opening h all e
-    (λ n. is_persistent_key (map.get n.keys c.args.id.0) ≡ true)
-    (record { same = c.load.ensures.same; slots = c.load.ensures.slots; keeps = c.load.ensures.keeps }) s.holds
-    (c.give_up.ensures.takes m more all (c.reserve-filling.ensures.gives m all more s.holds.slots gains) gains) (is_persistent (map.get m.keys c.args.id.0) key.0 key.1 key.2)
-
-pub returns-in-Corrupt-clause-unread : goal.returns-in-Corrupt-clause-unread
-returns-in-Corrupt-clause-unread g c = λ failed start opening h all e s is.
-    let old = c.args.self.now in
-    let slot = c.reserve-filling.result.slot in
-    let more : List Pairs = ((slot, 0) ∷ []) ∷ all in
-    let gains = gains_one all (slot, 0) in
-    let m = s.holds.model in
-    let sized = s.holds.directory.sized in
-    let there = c.requires.there.within in
-    let key = key_of_cell old.file.cells.slots.items m c.args.id.0 c.args.cell s.holds.directory (omega arith) c.requires.there.here in
-    brings g.D.Disk g.A.Devices g.C.Admission old c.load.new.self c.give_up.new.self c.load.new.out start opening h all e
-    (λ n. is_persistent_key (map.get n.keys c.args.id.0) ≡ true)
-    (record { same = c.load.ensures.same; slots = c.load.ensures.slots; keeps = c.load.ensures.keeps }) s.holds
-    (c.give_up.ensures.takes m more all (c.reserve-filling.ensures.gives m all more s.holds.slots gains) gains) (is_persistent (map.get m.keys c.args.id.0) key.0 key.1 key.2)
-
 pub returns-in-Ok-clause-wipes : goal.returns-in-Ok-clause-wipes
 returns-in-Ok-clause-wipes g c =
     let taken = c.reserve-filling.ensures in
     load_ends c.args.self.now.slots.table.slots c.reserve-filling.new.self.table.slots c.fill-slot.new.self.table.slots c.reserve-filling.result.slot taken.taken taken.wipes c.fill-slot.ensures.wipes
 
-pub returns-in-Disk-clause-wipes : goal.returns-in-Disk-clause-wipes
-returns-in-Disk-clause-wipes g c =
+pub returns-in-Err : goal.returns-in-Err
+returns-in-Err g c =
+    let old = c.args.self.now in
+    let before = old.slots.table.slots in
     let taken = c.reserve-filling.ensures in
-    load_ends c.args.self.now.slots.table.slots c.reserve-filling.new.self.table.slots c.give_up.new.self.table.slots c.reserve-filling.result.slot taken.taken taken.wipes c.give_up.ensures.wipes
-
-pub returns-in-Corrupt-clause-wipes : goal.returns-in-Corrupt-clause-wipes
-returns-in-Corrupt-clause-wipes g c =
-    let taken = c.reserve-filling.ensures in
-    load_ends c.args.self.now.slots.table.slots c.reserve-filling.new.self.table.slots c.give_up.new.self.table.slots c.reserve-filling.result.slot taken.taken taken.wipes c.give_up.ensures.wipes
-
-pub returns-in-Disk-clause-emptied : goal.returns-in-Disk-clause-emptied
-returns-in-Disk-clause-emptied g c =
-    load_empties c.args.self.now.slots.table.slots c.reserve-filling.new.self.table.slots c.give_up.new.self.table.slots c.reserve-filling.result.slot c.reserve-filling.ensures.wipes c.give_up.ensures.wipes c.give_up.ensures.emptied
-
-pub returns-in-Corrupt-clause-emptied : goal.returns-in-Corrupt-clause-emptied
-returns-in-Corrupt-clause-emptied g c =
-    load_empties c.args.self.now.slots.table.slots c.reserve-filling.new.self.table.slots c.give_up.new.self.table.slots c.reserve-filling.result.slot c.reserve-filling.ensures.wipes c.give_up.ensures.wipes c.give_up.ensures.emptied
+    let gone = c.give_up.ensures in
+    let loaded = c.load.ensures in
+    let fault = c.in-Err.fault in
+    let is = c.in-Err.is in
+    let why : (u : Unread) → IsErrOf {T = ℕ} {E = Unread} (Err c.of.result) u → IsErrOf {T = ℕ} {E = Unread} (Err (unread_by fault)) u = λ u. subst (λ f. IsErrOf {T = ℕ} {E = Unread} (Err f) u) c.of.ensures in
+    let s = c.requires.stands.4 in
+    let slot = c.reserve-filling.result.slot in
+    record {
+      size = loaded.size;
+      clear = c.in-Err.ensures.clear;
+      within = tt;
+      full = tt;
+      found = tt;
+      missing = λ e. never_missing fault (why Missing e);
+      unread = λ failed start opening h all e s is.
+          let more : List Pairs = ((slot, 0) ∷ []) ∷ all in
+          let gains = gains_one all (slot, 0) in
+          let m = s.holds.model in
+          let sized = s.holds.directory.sized in
+          let there = c.requires.there.within in
+          let key = key_of_cell old.file.cells.slots.items m c.args.id.0 c.args.cell s.holds.directory (omega arith) c.requires.there.here in
+          brings g.D.Disk g.A.Devices g.C.Admission old c.load.new.self c.give_up.new.self c.load.new.out start opening h all e
+          (λ n. is_persistent_key (map.get n.keys c.args.id.0) ≡ true)
+          (record { same = loaded.same; slots = loaded.slots; keeps = loaded.keeps }) s.holds
+          (gone.takes m more all (taken.gives m all more s.holds.slots gains) gains) (is_persistent (map.get m.keys c.args.id.0) key.0 key.1 key.2);
+      disk = λ e. loaded.disk (is ∙ ap Err (from_disk fault (why Disk e) (λ full. loaded.full (is ∙ ap Err full))));
+      corrupt = λ e. is_false (is_some (g.D.Disk.contents c.load.new.self.cells.disk)) (λ tells.
+          loaded.corrupt (is ∙ ap Err (from_corrupt fault (why Corrupt e))) _ _ (s.holds.file (sym (ap is_some loaded.same) ∙ tells)));
+      same = loaded.same;
+      later = loaded.later;
+      wipes = load_ends before c.reserve-filling.new.self.table.slots c.give_up.new.self.table.slots slot taken.taken taken.wipes gone.wipes;
+      emptied = load_empties before c.reserve-filling.new.self.table.slots c.give_up.new.self.table.slots slot taken.wipes gone.wipes gone.emptied;
+      directory = loaded.slots;
+      keeps = loaded.keeps;
+      devices = refl {a = old.devices};
+      rules = refl {a = old.rules};
+      made = refl {a = old.made};
+      found_count = refl {a = old.found};
+      ranked = refl {a = old.ranked};
+      opened = refl {a = old.opened};
+    }
