@@ -22,8 +22,15 @@ lent g c =
 pub leave_ranked-rank-requires-clause-stands : goal.leave_ranked-rank-requires-clause-stands
 leave_ranked-rank-requires-clause-stands g c κs within = rw c.of.ensures (lent g (goal.at.leave_ranked-rank-requires-clause-stands g c).After-of).stands
 
-pub returns-in-Ok-clause-lent : goal.returns-in-Ok-clause-lent
-returns-in-Ok-clause-lent g c = entered_after (rw c.of.ensures at c.leave_ranked-rank.ensures.entered) (lent g (goal.at.returns-in-Ok-clause-lent g c).After-of).decided
+pub returns-in-Ok : goal.returns-in-Ok
+returns-in-Ok g c = record {
+  at = c.leave_ranked-rank.ensures.at;
+  legal = c.leave_ranked-rank.ensures.legal;
+  lent = entered_after (rw c.of.ensures at c.leave_ranked-rank.ensures.entered) (lent g (goal.at.returns-in-Ok g c).After-of).decided;
+  fits = c.in-Ok.ensures.fits;
+  refused = tt;
+  spare = tt;
+}
 
 refused : (g : _) (c : goal.In-Err g) → IsTurned (world c.args.self.now) c.args.pass.now c.look.new.self (model_request c.args.call.now c.args.room) (mark_of c.in-Err.status) c.args.pass.now.me.0.holding (DecidesAfter (world c.args.self.now) (IsRefused (use_refusal c.args.wanted) c.args.id.0 c.in-Err.status))
 refused g c =
@@ -36,5 +43,12 @@ refused g c =
 pub leave_ranked-rank-requires-in-Err-clause-stands : goal.leave_ranked-rank-requires-in-Err-clause-stands
 leave_ranked-rank-requires-in-Err-clause-stands g c κs within = (refused g (goal.at.leave_ranked-rank-requires-in-Err-clause-stands g c).In-Err).stands
 
-pub returns-in-Err-clause-refused : goal.returns-in-Err-clause-refused
-returns-in-Err-clause-refused g c = entered_after c.leave_ranked-rank-in-Err.ensures.entered (refused g (goal.at.returns-in-Err-clause-refused g c).In-Err).decided
+pub returns-in-Err : goal.returns-in-Err
+returns-in-Err g c = record {
+  at = c.leave_ranked-rank-in-Err.ensures.at;
+  legal = c.leave_ranked-rank-in-Err.ensures.legal;
+  lent = tt;
+  fits = tt;
+  refused = entered_after c.leave_ranked-rank-in-Err.ensures.entered (refused g (goal.at.returns-in-Err g c).In-Err).decided;
+  spare = c.in-Err.ensures.spare;
+}
