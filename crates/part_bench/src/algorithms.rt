@@ -2,7 +2,7 @@
 ghost use Rattle.std.specs.Prelude.{◌≡◌, ◌≤◌, ◌%◌, length};
 ghost use Rattle.crypto_specs.specs.Prelude.{IsKey};
 
-use crate::jobs::Algorithm;
+use crate::jobs::{Aead, Algorithm, Cipher, Digest};
 use aes_core::AesKey;
 use cipher_modes::{cbc_decrypt, cbc_encrypt, ctr_xor, ecb_decrypt, ecb_encrypt};
 use cmac_ops::cmac;
@@ -10,7 +10,7 @@ use hash_ops::Hash;
 use hash_ops::one_shot::hash;
 use hmac_ops::hmac;
 use kdf_core::pbkdf2_block;
-use sha2::{Digest, Sha256};
+use sha2::{Digest as _, Sha256};
 
 const KEY: [u8; 16] = [0; 16];
 
@@ -18,7 +18,55 @@ const IV: [u8; 16] = [0; 16];
 
 const NONCE: [u8; 12] = [0; 12];
 
-// Runs an algorithm once. A cipher changes the text; a digest or a tag goes to the front of `out`.
+// A digest or a tag of a text goes to the front of `out`.
+fn digest(digest: Digest, key: &AesKey, text: &[u8], out: &mut [u8; 64])
+    requires key { IsKey key.now }
+    requires limit { length text.now ≤ 65536 }
+{
+    match digest {
+        Digest::Sha2 => out[..32].copy_from_slice(&Sha256::digest(text)),
+        Digest::Sha256 => {
+            hash(Hash::Sha256, text, out);
+        }
+        Digest::Hmac => {
+            hmac(Hash::Sha256, &KEY, text, out);
+        }
+        Digest::Cmac => out[..16].copy_from_slice(&cmac(key, text)),
+        Digest::Pbkdf2 => {
+            pbkdf2_block(Hash::Sha256, &KEY, text, 10_000, 1, out);
+        }
+    }
+}
+
+// Enciphers or deciphers a text.
+fn apply(cipher: Cipher, key: &AesKey, text: &mut [u8])
+    requires key { IsKey key.now }
+    requires limit { length text.old ≤ 65536 }
+    requires whole { length text.old % 16 ≡ 0 }
+    ensures { length text.new ≡ length text.old }
+{
+    match cipher {
+        Cipher::Ecb => ecb_encrypt(key, text),
+        Cipher::EcbDecryption => ecb_decrypt(key, text),
+        Cipher::Cbc => cbc_encrypt(key, &IV, text),
+        Cipher::CbcDecryption => cbc_decrypt(key, &IV, text),
+        Cipher::Ctr => ctr_xor(key, &IV, text),
+    }
+}
+
+// Enciphers a text, whose tag goes to the front of `out`.
+fn seal(aead: Aead, key: &AesKey, text: &mut [u8], out: &mut [u8; 64])
+    requires key { IsKey key.now }
+    requires limit { length text.old ≤ 65536 }
+    ensures { length text.new ≡ length text.old }
+{
+    match aead {
+        Aead::Gcm => aead_gcm::seal(key, &NONCE, &[], text, &mut out[..16]),
+        Aead::Ccm => aead_ccm::seal(key, &NONCE, &[], text, &mut out[..16]),
+    }
+}
+
+// Runs an algorithm once.
 fn turn(algorithm: Algorithm, key: &AesKey, text: &mut [u8], out: &mut [u8; 64])
     requires key { IsKey key.now }
     requires limit { length text.old ≤ 65536 }
@@ -26,24 +74,9 @@ fn turn(algorithm: Algorithm, key: &AesKey, text: &mut [u8], out: &mut [u8; 64])
     ensures { length text.new ≡ length text.old }
 {
     match algorithm {
-        Algorithm::Sha2 => out[..32].copy_from_slice(&Sha256::digest(&*text)),
-        Algorithm::Sha256 => {
-            hash(Hash::Sha256, text, out);
-        }
-        Algorithm::Hmac => {
-            hmac(Hash::Sha256, &KEY, text, out);
-        }
-        Algorithm::Cmac => out[..16].copy_from_slice(&cmac(key, text)),
-        Algorithm::Ecb => ecb_encrypt(key, text),
-        Algorithm::EcbDecryption => ecb_decrypt(key, text),
-        Algorithm::Cbc => cbc_encrypt(key, &IV, text),
-        Algorithm::CbcDecryption => cbc_decrypt(key, &IV, text),
-        Algorithm::Ctr => ctr_xor(key, &IV, text),
-        Algorithm::Gcm => aead_gcm::seal(key, &NONCE, &[], text, &mut out[..16]),
-        Algorithm::Ccm => aead_ccm::seal(key, &NONCE, &[], text, &mut out[..16]),
-        Algorithm::Pbkdf2 => {
-            pbkdf2_block(Hash::Sha256, &KEY, text, 10_000, 1, out);
-        }
+        Algorithm::Digest(kind) => digest(kind, key, text, out),
+        Algorithm::Cipher(kind) => apply(kind, key, text),
+        Algorithm::Aead(kind) => seal(kind, key, text, out),
     }
 }
 
@@ -62,11 +95,7 @@ pub fn run(algorithm: Algorithm, text: &mut [u8], turns: usize) -> u64
         text[0] ^= out[0];
     }
     let output: &[u8] = match algorithm {
-        Algorithm::Ecb
-        | Algorithm::EcbDecryption
-        | Algorithm::Cbc
-        | Algorithm::CbcDecryption
-        | Algorithm::Ctr => text,
+        Algorithm::Cipher(_) => text,
         _ => &out,
     };
     let mut front = [0; 8];

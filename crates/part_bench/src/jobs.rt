@@ -1,22 +1,40 @@
 // What the words of the program ask for.
 ghost use Rattle.std.specs.Prelude.{◌≡◌, ◌≤◌, ◌%◌};
 
+/// What reads a text, and gives a digest or a tag.
 #[derive(Clone, Copy, Drop)]
-pub enum Algorithm {
+pub enum Digest {
     /// SHA-256 by the crate `sha2` alone.
     Sha2,
     Sha256,
     Hmac,
     Cmac,
+    /// A block of PBKDF2-HMAC-SHA-256 of 10,000 turns, with the text as its salt.
+    Pbkdf2,
+}
+
+/// What changes a text.
+#[derive(Clone, Copy, Drop)]
+pub enum Cipher {
     Ecb,
     EcbDecryption,
     Cbc,
     CbcDecryption,
     Ctr,
+}
+
+/// What changes a text, and gives a tag.
+#[derive(Clone, Copy, Drop)]
+pub enum Aead {
     Gcm,
     Ccm,
-    /// A block of PBKDF2-HMAC-SHA-256 of 10,000 turns, with the text as its salt.
-    Pbkdf2,
+}
+
+#[derive(Clone, Copy, Drop)]
+pub enum Algorithm {
+    Digest(Digest),
+    Cipher(Cipher),
+    Aead(Aead),
 }
 
 /// What has updates: an algorithm of an operation in several parts.
@@ -38,31 +56,44 @@ pub enum Work {
     Update(Family),
 }
 
+/// The names of all works.
+const NAMES: &[(&str, Work)] = &[
+    ("sha2", Work::Whole(Algorithm::Digest(Digest::Sha2))),
+    ("sha256", Work::Whole(Algorithm::Digest(Digest::Sha256))),
+    ("hmac", Work::Whole(Algorithm::Digest(Digest::Hmac))),
+    ("cmac", Work::Whole(Algorithm::Digest(Digest::Cmac))),
+    ("pbkdf2", Work::Whole(Algorithm::Digest(Digest::Pbkdf2))),
+    ("ecb", Work::Whole(Algorithm::Cipher(Cipher::Ecb))),
+    (
+        "ecb_decryption",
+        Work::Whole(Algorithm::Cipher(Cipher::EcbDecryption)),
+    ),
+    ("cbc", Work::Whole(Algorithm::Cipher(Cipher::Cbc))),
+    (
+        "cbc_decryption",
+        Work::Whole(Algorithm::Cipher(Cipher::CbcDecryption)),
+    ),
+    ("ctr", Work::Whole(Algorithm::Cipher(Cipher::Ctr))),
+    ("gcm", Work::Whole(Algorithm::Aead(Aead::Gcm))),
+    ("ccm", Work::Whole(Algorithm::Aead(Aead::Ccm))),
+    ("sha256_update", Work::Update(Family::Sha256)),
+    ("hmac_update", Work::Update(Family::Hmac)),
+    ("cmac_update", Work::Update(Family::Cmac)),
+    ("ctr_update", Work::Update(Family::Ctr)),
+    ("cbc_update", Work::Update(Family::Cbc)),
+    ("gcm_update", Work::Update(Family::Gcm)),
+    ("ccm_update", Work::Update(Family::Ccm)),
+];
+
 impl Work {
     // The work of a name; `None` where it is the name of none.
     fn named(name: &str) -> Option<Work> {
-        match name {
-            "sha2" => Some(Work::Whole(Algorithm::Sha2)),
-            "sha256" => Some(Work::Whole(Algorithm::Sha256)),
-            "hmac" => Some(Work::Whole(Algorithm::Hmac)),
-            "cmac" => Some(Work::Whole(Algorithm::Cmac)),
-            "ecb" => Some(Work::Whole(Algorithm::Ecb)),
-            "ecb_decryption" => Some(Work::Whole(Algorithm::EcbDecryption)),
-            "cbc" => Some(Work::Whole(Algorithm::Cbc)),
-            "cbc_decryption" => Some(Work::Whole(Algorithm::CbcDecryption)),
-            "ctr" => Some(Work::Whole(Algorithm::Ctr)),
-            "gcm" => Some(Work::Whole(Algorithm::Gcm)),
-            "ccm" => Some(Work::Whole(Algorithm::Ccm)),
-            "pbkdf2" => Some(Work::Whole(Algorithm::Pbkdf2)),
-            "sha256_update" => Some(Work::Update(Family::Sha256)),
-            "hmac_update" => Some(Work::Update(Family::Hmac)),
-            "cmac_update" => Some(Work::Update(Family::Cmac)),
-            "ctr_update" => Some(Work::Update(Family::Ctr)),
-            "cbc_update" => Some(Work::Update(Family::Cbc)),
-            "gcm_update" => Some(Work::Update(Family::Gcm)),
-            "ccm_update" => Some(Work::Update(Family::Ccm)),
-            _ => None,
+        for (other, work) in NAMES {
+            if *other == name {
+                return Some(*work);
+            }
         }
+        None
     }
 }
 

@@ -124,6 +124,42 @@ fn export_each<D: Disk, A: Devices, C: Admission>(
     Some(())
 }
 
+fn is_held<D: Disk, A: Devices, C: Admission>(store: &Keeper<D, A, C>, id: u32) -> bool {
+    store.slot(KeyId(id)).is_some()
+}
+
+// Whether a key is in memory after the exports of the keys from one on and up to another.
+fn held_after<D: Disk, A: Devices, C: Admission>(
+    store: &mut Keeper<D, A, C>,
+    first: u32,
+    last: u32,
+    id: u32,
+) -> Option<bool>
+    requires few { last ≤ 512 }
+{
+    export_each(store, first, last)?;
+    Some(is_held(store, id))
+}
+
+// Whether a key is in memory after it was purged.
+fn held_after_purge<D: Disk, A: Devices, C: Admission>(
+    store: &mut Keeper<D, A, C>,
+    id: u32,
+) -> Option<bool> {
+    store.purge(KeyId(id))?.ok()?;
+    Some(is_held(store, id))
+}
+
+// What `watch` answers.
+fn watch_keys<D: Disk, A: Devices, C: Admission>(store: &mut Keeper<D, A, C>) -> Option<[bool; 5]> {
+    let opened = is_held(store, 1);
+    let filled = held_after(store, 1, 384, 1)?;
+    let evicted = held_after(store, 385, 385, 1)?;
+    let other = held_after(store, 1, 1, 2)?;
+    let purged = held_after_purge(store, 1)?;
+    Some([opened, filled, evicted, other, purged])
+}
+
 fn watched<A: Devices, C: Admission>(
     alloc: Global,
     disk: MemoryDisk,
@@ -133,16 +169,7 @@ fn watched<A: Devices, C: Admission>(
     requires { A.keys devices ≡ Some no_keys }
 {
     let mut store = opened(alloc, disk, devices, rules)?;
-    let mut seen = [store.slot(KeyId(1)).is_some(); 5];
-    export_each(&mut store, 1, 384)?;
-    seen[1] = store.slot(KeyId(1)).is_some();
-    export_each(&mut store, 385, 385)?;
-    seen[2] = store.slot(KeyId(1)).is_some();
-    export_each(&mut store, 1, 1)?;
-    seen[3] = store.slot(KeyId(2)).is_some();
-    store.purge(KeyId(1))?.ok()?;
-    seen[4] = store.slot(KeyId(1)).is_some();
-    Some(seen)
+    watch_keys(&mut store)
 }
 
 /// Of a full store, whether key 1 is in memory at first, after the exports of 384 keys from it on, and after one more; whether

@@ -5,7 +5,9 @@
 
 mod full;
 
+use disk_face::MemoryDisk;
 use full::{Task, do_task, full_disk, watch};
+use std::alloc::Global;
 use std::process::ExitCode;
 use std::{env, io};
 
@@ -48,19 +50,23 @@ fn try_all(rt: &HostRuntime) -> io::Result<bool> {
     Ok(true)
 }
 
+// Opens a store so often.
+fn open_often(alloc: Global, disk: MemoryDisk, turns: usize) -> Option<u32> {
+    let mut disk = disk;
+    'openings: for _ in 0..turns {
+        disk = do_task(alloc, disk, Task::Open)?.1;
+    }
+    Some(0)
+}
+
 // Does one thing so often with a full store.
 fn run(rt: &HostRuntime, word: &str, turns: usize) -> Option<u32> {
     let alloc = rt.alloc();
-    let mut disk = full_disk(alloc)?;
+    let disk = full_disk(alloc)?;
     let task = match word {
         "look" => Task::Look { turns },
         "load" => Task::Load { turns },
-        "open" => {
-            'openings: for _ in 0..turns {
-                disk = do_task(alloc, disk, Task::Open)?.1;
-            }
-            return Some(0);
-        }
+        "open" => return open_often(alloc, disk, turns),
         _ => return None,
     };
     Some(do_task(alloc, disk, task)?.0)
