@@ -2,12 +2,12 @@
 ghost use Rattle.std.specs.Prelude.{◌≡◌, ◌≤◌, Some};
 ghost use Rattle.driver_dispatch.specs.Held.{no_keys};
 
+use crate::keeper::Keeper;
 use admission::{Admission, Rules};
 use disk_face::{Disk, Fails, MemoryDisk};
 use driver_dispatch::{Devices, Drivers};
 use key_attributes::{Attributes, KeyId, KeyType, Lifetime, Policy, Usage};
 use std::alloc::Global;
-use store_trials::Keeper;
 
 const KEY: [u8; 32] = [0xa5; 32];
 

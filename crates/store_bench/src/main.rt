@@ -1,91 +1,88 @@
-//! Tries the store for its figures. With no words it prints what becomes of a full store. `store_bench look|load|open TURNS`
-//! does one thing again and again with a store of 512 keys, so that its time can be taken from outside: exports a key that
-//! is in memory, exports one that has to be read from the file first, or opens the store.
+//! Figures of the key store and of its parts: it does one thing again and again, so that its time can be taken from outside.
+//! With a store of 512 keys it exports a key that is in memory or one that has to be read from the file first, or opens the
+//! store. It makes a call of a table of 384 keys; opens a full store file, makes 512 keys in a new one, or looks for one of
+//! 512 keys; runs an algorithm over a text of zeros, and prints the front of its last output; or updates an operation. With
+//! no words it prints what becomes of a full store, and digests a block once.
 #![tactic(auto)]
 
+mod algorithms;
+mod changing;
+mod file_turns;
 mod full;
+mod jobs;
+mod keeper;
+mod reading;
+mod room;
+mod slot_keys;
+mod slot_turns;
+mod store_file;
+mod store_turns;
+mod turns;
+mod updates;
 
-use disk_face::MemoryDisk;
-use full::{Task, do_task, full_disk, watch};
-use std::alloc::Global;
+use jobs::{Algorithm, Family, Job, Work};
 use std::process::ExitCode;
 use std::{env, io};
 
-const USAGE: &str = "usage: store_bench [look|load|open TURNS]";
+const USAGE: &str =
+    "usage: store_bench [CALL TURNS | slots CALL TURNS | file CALL TURNS | NAME BYTES TURNS]
+CALL of the store is look, load or open, of slots find, lease or oldest, and of file open, create or find.
+NAME is sha2, sha256, hmac, cmac, ecb, ecb_decryption, cbc, cbc_decryption, ctr, gcm, ccm or pbkdf2, or the update
+of an operation:
+sha256_update, hmac_update, cmac_update, ctr_update, cbc_update, gcm_update or ccm_update.
+BYTES is a multiple of 16, from 16 to 65536.";
 
-// Exports the keys of a full store, and once more where it was opened again.
-fn exports(rt: &HostRuntime) -> Option<(u32, u32)> {
-    let alloc = rt.alloc();
-    let (first, disk) = do_task(alloc, full_disk(alloc)?, Task::ExportAll)?;
-    let (second, _disk) = do_task(alloc, disk, Task::ExportAll)?;
-    Some((first, second))
+// Runs an algorithm over a text of zeros.
+fn run_whole(rt: &HostRuntime, algorithm: Algorithm, job: Job) -> io::Result<()> {
+    let mut text = vec![in rt.alloc(); 0u8; job.bytes]?;
+    let front = algorithms::run(algorithm, &mut text, job.turns);
+    println!(rt; "{front:016x}")
 }
 
-// Which keys of a full store are in memory.
-fn watch_full(rt: &HostRuntime) -> Option<[bool; 5]> {
-    watch(rt.alloc(), full_disk(rt.alloc())?)
+// Updates an operation with a text of zeros.
+fn run_updates(rt: &HostRuntime, family: Family, job: Job) -> io::Result<()> {
+    let text = vec![in rt.alloc(); 0u8; job.bytes]?;
+    let mut out = vec![in rt.alloc(); 0u8; 65536]?;
+    match updates::run(family, &text, &mut out, job.turns) {
+        Ok(()) => println!(rt; "updated"),
+        Err(_) => println!(rt; "refused"),
+    }
 }
 
-fn word(answer: bool) -> &'static str {
-    if answer { "yes" } else { "no" }
-}
-
-// Prints what becomes of a full store.
-fn try_all(rt: &HostRuntime) -> io::Result<bool> {
-    let Some((first, second)) = exports(rt) else {
+// Runs the job that words ask for, and answers whether they ask for one.
+fn run_job(rt: &HostRuntime, name: &str, bytes: &str, turns: &str) -> io::Result<bool> {
+    let Some(job) = Job::asked_by(name, bytes, turns) else {
         return Ok(false);
     };
-    println!(rt; "exported {first} of 600, and {second} once more")?;
-    let Some(seen) = watch_full(rt) else {
-        return Ok(false);
-    };
-    let (opened, filled, evicted) = (word(seen[0]), word(seen[1]), word(seen[2]));
-    let (other, purged) = (word(seen[3]), word(seen[4]));
-    println!(rt;
-        "key 1 in memory at first: {opened}, after 384 exports: {filled}, after one more: {evicted}"
-    )?;
-    println!(rt;
-        "key 2 in memory after key 1 was exported again: {other}, key 1 after a purge: {purged}"
-    )?;
+    match job.work {
+        Work::Whole(algorithm) => run_whole(rt, algorithm, job)?,
+        Work::Update(family) => run_updates(rt, family, job)?,
+    }
     Ok(true)
 }
 
-// Opens a store so often.
-fn open_often(alloc: Global, disk: MemoryDisk, turns: usize) -> Option<u32> {
-    let mut disk = disk;
-    'openings: for _ in 0..turns {
-        disk = do_task(alloc, disk, Task::Open)?.1;
+// Does what words ask for, and answers whether they ask for something that isn't refused.
+fn run(rt: &HostRuntime, words: &[&str]) -> io::Result<bool> {
+    match words {
+        [] => Ok(store_turns::print_full(rt)? && run_job(rt, "sha256", "16", "1")?),
+        [call, turns] => Ok(store_turns::run(rt.alloc(), call, turns).is_some()),
+        ["slots", call, turns] => Ok(slot_turns::run(rt.alloc(), call, turns).is_some()),
+        ["file", call, turns] => Ok(store_file::run(rt.alloc(), call, turns).is_some()),
+        [name, bytes, turns] => run_job(rt, name, bytes, turns),
+        _ => Ok(false),
     }
-    Some(0)
-}
-
-// Does one thing so often with a full store.
-fn run(rt: &HostRuntime, word: &str, turns: usize) -> Option<u32> {
-    let alloc = rt.alloc();
-    let disk = full_disk(alloc)?;
-    let task = match word {
-        "look" => Task::Look { turns },
-        "load" => Task::Load { turns },
-        "open" => return open_often(alloc, disk, turns),
-        _ => return None,
-    };
-    Some(do_task(alloc, disk, task)?.0)
 }
 
 fn main(rt: HostRuntime) -> io::Result<ExitCode> {
-    let mut words = Vec::new(rt.alloc());
-    for word in env::args(&rt)?.skip(1) {
-        words.push(word)?;
+    let mut arguments = Vec::new(rt.alloc());
+    for argument in env::args(&rt)?.skip(1) {
+        arguments.push(argument)?;
     }
-    let done = match words.as_slice() {
-        [] => try_all(&rt)?,
-        [word, count] => match count.parse() {
-            Ok(count) => run(&rt, word, count).is_some(),
-            Err(_) => false,
-        },
-        _ => false,
-    };
-    if done {
+    let mut words = Vec::new(rt.alloc());
+    for argument in &arguments {
+        words.push(argument.as_str())?;
+    }
+    if run(&rt, &words)? {
         return Ok(ExitCode::SUCCESS);
     }
     eprintln!(rt; "{USAGE}")?;

@@ -1,4 +1,0 @@
-use Rattle.part_bench.proofs.file_turns.fill.Goals as goal
-
-pub create-requires-clause-key : goal.create-requires-clause-key
-create-requires-clause-key c = c.one_byte_key.ensures 0xa5

@@ -1,8 +1,0 @@
-use Rattle.std.proofs.Common.{length, ◌≡◌}
-use Rattle.part_bench.proofs.file_turns.fill.Given as goal
-
-abbrev pub invariant-loop-id : goal.invariant-loop-id
-invariant-loop-id l = record {
-  size : length l.cells.disk.bytes.items ≡ 557120;
-  slots : length l.cells.slots.items ≡ 512;
-}

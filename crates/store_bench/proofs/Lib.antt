@@ -1,0 +1,3 @@
+mod Keepings
+mod Outs
+mod ReadSlots

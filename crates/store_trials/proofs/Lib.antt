@@ -1,2 +1,0 @@
-mod Keepings
-mod Outs

@@ -1,9 +1,0 @@
-//! A store with one user, whose calls need no condition, for trials of the store's turns.
-#![tactic(auto)]
-
-mod changing;
-mod keeper;
-mod reading;
-mod turns;
-
-pub use keeper::Keeper;
