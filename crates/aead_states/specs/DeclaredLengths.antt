@@ -3,9 +3,9 @@ use Rattle.std.specs.Prelude.{ℕ, Option, Some, None}
 use Rattle.store_model.specs.AeadOperations as model
 use Rattle.aead_states.specs.declared.lengths.Lengths.{Lengths}
 
-abbrev pub lengths_of : Option Lengths → Option model.Lengths
-lengths_of (Some lengths) = Some (record { ad = lengths.ad; payload = lengths.payload })
-lengths_of None = None
+abbrev pub declared_lengths : Option Lengths → Option model.Lengths
+declared_lengths (Some lengths) = Some (record { ad = lengths.ad; payload = lengths.payload })
+declared_lengths None = None
 
 -- the associated data that was declared, and 0 where none was
 abbrev pub declared_ad : Option model.Lengths → ℕ

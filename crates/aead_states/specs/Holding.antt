@@ -2,10 +2,10 @@
 use Rattle.std.specs.Prelude.{◌≡◌, true, false, [], length, is_some, MatchBool}
 use Rattle.store_model.specs.Prelude.{is_ccm, tag_bytes, Operation, bytes_or_empty, AeadWork, declared_payload}
 use Rattle.key_policy.specs.Names.{is_ccm as is_ccm_kind}
-use Rattle.multipart.specs.States.{IsOperation}
+use Rattle.multipart.specs.States.{StandsForOperation}
 use Rattle.aead_states.specs.declared.running.RunningAead.{RunningAead}
 use Rattle.aead_states.specs.declared.state.AeadState.{AeadState}
-use Rattle.aead_states.specs.DeclaredLengths.{declared_ad, lengths_of}
+use Rattle.aead_states.specs.DeclaredLengths.{declared_ad, declared_lengths}
 use Rattle.aead_states.specs.Runs.{HoldsData, HoldsPayload, IsClearParts}
 
 -- no key, and nothing that runs
@@ -41,7 +41,7 @@ pub record HoldsAead (s : RunningAead) (w : AeadWork) : Type 0 where
   pub tag : s.aead.tag_length ≡ tag_bytes w.alg
   pub key : s.key ≡ w.key
   pub has_key : s.has_key ≡ true
-  pub lengths : lengths_of s.lengths ≡ w.lengths
+  pub lengths : declared_lengths s.lengths ≡ w.lengths
   pub has_nonce : s.has_nonce ≡ is_some w.nonce
   pub has_text : s.has_text ≡ w.has_text
   pub ad : s.ad ≡ length w.ad
@@ -50,4 +50,4 @@ pub record HoldsAead (s : RunningAead) (w : AeadWork) : Type 0 where
 
 -- the state stands for this operation
 abbrev pub IsAeadOperation : AeadState → Operation AeadWork → Type 0
-IsAeadOperation s op = IsOperation IsClearRunningAead HoldsAead s.state op
+IsAeadOperation s op = StandsForOperation IsClearRunningAead HoldsAead s.state op

@@ -6,5 +6,5 @@ use Rattle.key_policy.specs.Keys.{is_key}
 use Rattle.key_policy.specs.Names.{tag_lengths}
 
 -- a key and an AEAD to compute with
-abbrev pub is_ready : AeadAlgorithm → List ℕ → Bool
-is_ready aead key = is_key key && permits_length (tag_lengths aead.kind) aead.tag_length
+abbrev pub can_compute : AeadAlgorithm → List ℕ → Bool
+can_compute aead key = is_key key && permits_length (tag_lengths aead.kind) aead.tag_length

@@ -5,7 +5,7 @@ ghost use Rattle.psa_status.specs.Rows.{first_row};
 ghost use Rattle.store_model.specs.Prelude.{buffer_after, given, reply_unless, total_limit, AeadGenerateNonce, AeadWork, aead_step, declared_payload, generate_nonce_rows, nonce_length, set_nonce_rows, takes_nonce, with_nonce};
 ghost use Rattle.store_model.specs.Aeads as model;
 ghost use Rattle.key_policy.specs.Names.{is_ccm, permits_nonce_by};
-ghost use Rattle.aead_states.specs.DeclaredLengths.{lengths_of};
+ghost use Rattle.aead_states.specs.DeclaredLengths.{declared_lengths};
 ghost use Rattle.aead_states.specs.Holding.{HoldsAead};
 
 use crate::declared::{declared_ad, declared_payload};
@@ -43,7 +43,7 @@ impl RunningAead {
     fn begin(&mut self, nonce: &[u8])
         requires key { self.old.has_key ≡ true }
         requires nonce { IsTrue (permits_nonce_by self.old.aead.kind (length nonce.now)
-            (declared_payload (lengths_of self.old.lengths))) }
+            (declared_payload (declared_lengths self.old.lengths))) }
         ensures { (w : AeadWork) → HoldsAead self.old w → takes_nonce w ≡ true →
             HoldsAead self.new (with_nonce w nonce.now) }
     {

@@ -7,7 +7,7 @@ ghost use Rattle.store_model.specs.Prelude.{total_limit, AeadWork, aead_step, ae
 ghost use Rattle.service_calls.specs.Meanings.{model_aead_step};
 ghost use Rattle.service_calls.specs.Random.{takes_nonce_bytes};
 ghost use Rattle.key_policy.specs.Names.{IsTagLength, NamesAead};
-ghost use Rattle.aead_states.specs.Ready.{is_ready};
+ghost use Rattle.aead_states.specs.Ready.{can_compute};
 
 use crate::lengths::{Lengths, is_past_limit};
 use crate::parts::Parts;
@@ -31,7 +31,7 @@ pub(crate) struct RunningAead {
     pub(crate) text: u64,
     pub(crate) has_text: bool,
     pub(crate) parts: Parts,
-    ghost ready: { has_key ≡ true → IsTrue (is_ready aead key) },
+    ghost ready: { has_key ≡ true → IsTrue (can_compute aead key) },
     ghost keyed: { has_nonce ≡ true → has_key ≡ true },
     ghost ad_limit: { ad ≤ total_limit },
     ghost text_limit: { text ≤ total_limit },

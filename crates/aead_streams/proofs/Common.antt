@@ -3,7 +3,7 @@ pub use Rattle.aead_ccm.specs.Chaining.{chained_from, filled_block}
 pub use Rattle.aead_gcm.proofs.GhashSteps.{in_turn, rest_from}
 pub use Rattle.aead_streams.specs.CcmStates.{chain_start}
 pub use Rattle.aead_streams.specs.Chains.{chain_after, data_front}
-pub use Rattle.aead_streams.specs.Counters.{counted}
+pub use Rattle.aead_streams.specs.Counters.{counter_at}
 unfoldable pub use Rattle.aead_streams.specs.Counters.{byte_of_stream, stream_block, text_xor}
 pub use Rattle.aead_streams.specs.Streams.{IsAt}
 pub use Rattle.aead_streams.specs.TextHashes.{HasTaken}

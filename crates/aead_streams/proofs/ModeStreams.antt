@@ -1,5 +1,5 @@
 -- The streams of CTR and GCM are key streams.
-use Rattle.aead_streams.proofs.Common.{CounterWidth, KeepsLength, List, Low32, Whole, [], aes_encrypt, ap, ap₂, arith, block_count, block_number, byte_of_stream, cases_lt, counted, counter_block, ctr_xor, drop, gcm_stream, gcm_text, get_or-append_right, get_or_append_left, increased, initial_counter_block, inl, inr, key_stream, length, length-aes_encrypt, length-append, length-number_block, number_block, refl, slice_index, stream_block, suc, text_xor, xor_bytes, zero, ℕ, ◌%◌, ◌*◌, ◌++◌, ◌+◌, ◌-◌, ◌/◌, ◌<◌, ◌∙◌, ◌≡◌, ◌≤◌}
+use Rattle.aead_streams.proofs.Common.{CounterWidth, KeepsLength, List, Low32, Whole, [], aes_encrypt, ap, ap₂, arith, block_count, block_number, byte_of_stream, cases_lt, counter_at, counter_block, ctr_xor, drop, gcm_stream, gcm_text, get_or-append_right, get_or_append_left, increased, initial_counter_block, inl, inr, key_stream, length, length-aes_encrypt, length-append, length-number_block, number_block, refl, slice_index, stream_block, suc, text_xor, xor_bytes, zero, ℕ, ◌%◌, ◌*◌, ◌++◌, ◌+◌, ◌-◌, ◌/◌, ◌<◌, ◌∙◌, ◌≡◌, ◌≤◌}
 use Rattle.aead_streams.proofs.StreamLaws.{by_byte, further_piece}
 
 pub aes_keeps_length : (key : List ℕ) → KeepsLength (aes_encrypt key)
@@ -10,7 +10,7 @@ module _ (e : List ℕ → List ℕ) (keeps : KeepsLength e) (width : CounterWid
     (more : (n : ℕ) → n < limit → stream (suc n) ≡ stream n ++ stream_block e width start n) where
   length-block : (n : ℕ) → length (stream_block e width start n) ≡ 16
   unfolding stream_block
-  length-block n = keeps (number_block (counted width start n)) (length-number_block (counted width start n))
+  length-block n = keeps (number_block (counter_at width start n)) (length-number_block (counter_at width start n))
 
   length-stream : (n : ℕ) → n ≤ limit → length (stream n) ≡ 16 * n
   length-stream zero h = ap length none

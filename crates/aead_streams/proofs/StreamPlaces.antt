@@ -1,16 +1,16 @@
 -- A key stream's place, one block and one piece on.
-use Rattle.aead_streams.proofs.Common.{CounterWidth, IsAt, List, Low32, Whole, ap, ap₂, arith, byte_of_stream, counted, drop, drop-drop, drop_at, get_or-drop, increased, length, length-drop, length-take, number_block, slice_index, stream_block, sym, take, take_at, text_xor, xor_bytes, ℕ, ◌%◌, ◌++◌, ◌+◌, ◌-◌, ◌/◌, ◌<◌, ◌^◌, ◌∙◌, ◌≡◌, ◌≤◌}
+use Rattle.aead_streams.proofs.Common.{CounterWidth, IsAt, List, Low32, Whole, ap, ap₂, arith, byte_of_stream, counter_at, drop, drop-drop, drop_at, get_or-drop, increased, length, length-drop, length-take, number_block, slice_index, stream_block, sym, take, take_at, text_xor, xor_bytes, ℕ, ◌%◌, ◌++◌, ◌+◌, ◌-◌, ◌/◌, ◌<◌, ◌^◌, ◌∙◌, ◌≡◌, ◌≤◌}
 use Rattle.std.proofs.Common.{append_assoc}
 use Rattle.std.proofs.Math.Seq.{take-add}
 use Rattle.aead_streams.specs.declared.key_stream.KeyStream.{KeyStream}
 use Rattle.aead_streams.proofs.StreamLaws.{by_byte, text_xor-append, length-text_xor}
 
-start_counted : (width : CounterWidth) (start : ℕ) → start < 2 ^ 128 → start ≡ counted width start 0
+start_counted : (width : CounterWidth) (start : ℕ) → start < 2 ^ 128 → start ≡ counter_at width start 0
 unfolding increased
 start_counted Whole start h = omega arith
 start_counted Low32 start h = omega arith
 
-next_counted : (width : CounterWidth) (start n c : ℕ) → c ≡ counted width start n → counted width c 1 ≡ counted width start (n + 1)
+next_counted : (width : CounterWidth) (start n c : ℕ) → c ≡ counter_at width start n → counter_at width c 1 ≡ counter_at width start (n + 1)
 unfolding increased
 next_counted Whole start n c e = omega arith
 next_counted Low32 start n c e = omega arith
@@ -26,15 +26,15 @@ started s e width start w c h u = record {
 }
 
 pub refilled : (s t : KeyStream) (e : List ℕ → List ℕ) (width : CounterWidth) (start n : ℕ) → s.used ≡ 16 → IsAt s e width start n → t.width ≡ s.width → t.used ≡ 0
-    → t.counter ≡ counted s.width s.counter 1 → t.block ≡ e (number_block s.counter) → IsAt t e width start n
+    → t.counter ≡ counter_at s.width s.counter 1 → t.block ≡ e (number_block s.counter) → IsAt t e width start n
 unfolding stream_block
 refilled s t e width start n u h ew eu ec eb = record {
   blocks = h.blocks + 1;
   counts = ew ∙ h.counts;
-  counter = ec ∙ ap (λ (w : CounterWidth). counted w s.counter 1) h.counts ∙ next_counted width start h.blocks s.counter h.counter;
+  counter = ec ∙ ap (λ (w : CounterWidth). counter_at w s.counter 1) h.counts ∙ next_counted width start h.blocks s.counter h.counter;
   place = omega (arith, h.place);
   used = omega arith;
-  block = λ lt. eb ∙ ap (λ (c : ℕ). e (number_block c)) (h.counter ∙ ap (counted width start) (omega arith));
+  block = λ lt. eb ∙ ap (λ (c : ℕ). e (number_block c)) (h.counter ∙ ap (counter_at width start) (omega arith));
 }
 
 -- what is left of the block is the stream from the place on
@@ -42,7 +42,7 @@ pub piece_is : (s : KeyStream) (e : List ℕ → List ℕ) (width : CounterWidth
     → xor_bytes piece (drop s.used s.block) ≡ text_xor e width start n piece
 unfolding byte_of_stream stream_block
 piece_is s e width start n piece long lt fits h =
-    let whole : length s.block ≡ 16 = ap length (h.block lt) ∙ long (number_block (counted width start (h.blocks - 1))) in
+    let whole : length s.block ≡ 16 = ap length (h.block lt) ∙ long (number_block (counter_at width start (h.blocks - 1))) in
     by_byte e width start piece (drop s.used s.block) n (omega (arith, length-drop s.used s.block)) (λ i below.
     let row : h.blocks - 1 ≡ (n + i) / 16 = omega (arith, h.place) in
     let place : s.used + i ≡ (n + i) % 16 = omega (arith, h.place) in
@@ -70,11 +70,11 @@ block_is s e width start n block long used whole h =
     ap₂ slice_index (ap (λ (c : ℕ). e (number_block c)) h.counter ∙ ap (stream_block e width start) row) place)
 
 pub block_on : (s t : KeyStream) (e : List ℕ → List ℕ) (width : CounterWidth) (start n : ℕ) → s.used ≡ 16 → IsAt s e width start n → t.width ≡ s.width → t.used ≡ 16
-    → t.counter ≡ counted s.width s.counter 1 → IsAt t e width start (n + 16)
+    → t.counter ≡ counter_at s.width s.counter 1 → IsAt t e width start (n + 16)
 block_on s t e width start n u h ew eu ec = record {
   blocks = h.blocks + 1;
   counts = ew ∙ h.counts;
-  counter = ec ∙ ap (λ (w : CounterWidth). counted w s.counter 1) h.counts ∙ next_counted width start h.blocks s.counter h.counter;
+  counter = ec ∙ ap (λ (w : CounterWidth). counter_at w s.counter 1) h.counts ∙ next_counted width start h.blocks s.counter h.counter;
   place = omega (arith, h.place);
   used = omega arith;
   block = λ lt. absurd (omega arith);

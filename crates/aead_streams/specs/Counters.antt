@@ -5,13 +5,13 @@ use Rattle.aead_streams.specs.declared.counter_width.CounterWidth.{CounterWidth}
 use Rattle.aead_streams.specs.declared.counter_width.CounterWidth.TheVariants.{Whole, Low32}
 
 -- counter block n, as a number, where block 0 is y
-abbrev pub counted : CounterWidth → ℕ → ℕ → ℕ
-counted Whole y n = (y + n) % 2 ^ 128
-counted Low32 y n = increased y n
+abbrev pub counter_at : CounterWidth → ℕ → ℕ → ℕ
+counter_at Whole y n = (y + n) % 2 ^ 128
+counter_at Low32 y n = increased y n
 
 -- block i of the stream
 unfoldable pub stream_block : (List ℕ → List ℕ) → CounterWidth → ℕ → ℕ → List ℕ
-stream_block e width start i = e (number_block (counted width start i))
+stream_block e width start i = e (number_block (counter_at width start i))
 
 -- byte j of the stream
 unfoldable pub byte_of_stream : (List ℕ → List ℕ) → CounterWidth → ℕ → ℕ → ℕ

@@ -3,7 +3,7 @@ use Rattle.std.specs.Prelude.{◌≡◌, ℕ, List, length}
 use Rattle.crypto_specs.specs.Prelude.{aes_encrypt, ghash_from, initial_counter_block, hash_subkey, increased, numbers_of}
 use Rattle.aead_streams.specs.declared.counter_width.CounterWidth.TheVariants.{Low32}
 use Rattle.aead_streams.specs.Streams.{IsAt, IsClearStream}
-use Rattle.aead_streams.specs.TextHashes.{HasTaken, IsClearHash}
+use Rattle.aead_streams.specs.TextHashes.{HasTaken, IsClearTextHash}
 use Rattle.aead_streams.specs.declared.gcm_state.GcmState.{GcmState}
 
 -- n bytes of the text's key stream are used (7.1, step 3)
@@ -24,6 +24,6 @@ pub record HoldsGcmText (s : GcmState) (key nonce ad cipher : List ℕ) : Type 0
 
 -- the buffers are zeros
 pub record IsClearGcm (s : GcmState) : Type 0 where
-  pub hash : IsClearHash s.hash
+  pub hash : IsClearTextHash s.hash
   pub stream : IsClearStream s.stream
   pub first : s.first ≡ 0

@@ -13,6 +13,6 @@ pub record HasTaken (s : TextHash) (h y : ℕ) (text : List ℕ) : Type 0 where
   pub short : length s.buffer < 16
 
 -- hash key, value and buffer are zeros
-pub record IsClearHash (s : TextHash) : Type 0 where
+pub record IsClearTextHash (s : TextHash) : Type 0 where
   pub ghash : s.ghash ≡ (0, 0)
   pub buffer : s.buffer ≡ []

@@ -1,5 +1,5 @@
 ghost use Rattle.std.specs.Prelude.{◌≡◌};
-ghost use Rattle.aead_streams.specs.Counters.{counted};
+ghost use Rattle.aead_streams.specs.Counters.{counter_at};
 
 /// Which bits of a counter block count: all 128 (SP 800-38A appendix B.1), or the last 32 (SP 800-38D
 /// section 6.2). They wrap, and the other bits stay.
@@ -12,7 +12,7 @@ pub enum CounterWidth {
 impl CounterWidth {
     // The counter block after this one.
     pub(crate) fn next(self, counter: u128) -> u128
-        ensures { result ≡ counted self counter 1 }
+        ensures { result ≡ counter_at self counter 1 }
     {
         match self {
             CounterWidth::Whole => counter.wrapping_add(1),

@@ -1,6 +1,6 @@
 ghost use Rattle.std.specs.Prelude.{◌≡◌, ℕ, ◌+◌, ◌<◌, ◌≤◌, List, ◌++◌, length, take, drop, replicate};
 ghost use Rattle.crypto_specs.specs.Prelude.{aes_encrypt, IsKey, number_block};
-ghost use Rattle.aead_streams.specs.Counters.{counted, text_xor};
+ghost use Rattle.aead_streams.specs.Counters.{counter_at, text_xor};
 ghost use Rattle.aead_streams.specs.Streams.{IsAt, IsClearStream};
 
 use crate::counter_width::CounterWidth;
@@ -143,7 +143,7 @@ impl KeyStream {
     fn next_block(&mut self, key: &AesKey) -> u128
         requires { IsKey key.now }
         ensures block { number_block result ≡ aes_encrypt key.now (number_block self.old.counter) }
-        ensures counter { self.new.counter ≡ counted self.old.width self.old.counter 1 }
+        ensures counter { self.new.counter ≡ counter_at self.old.width self.old.counter 1 }
         ensures width { self.new.width ≡ self.old.width }
         ensures used { self.new.used ≡ self.old.used }
     {

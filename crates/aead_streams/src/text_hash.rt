@@ -16,12 +16,12 @@ pub struct TextHash {
 }
 
 impl TextHash {
-    ghost use Rattle.aead_streams.specs.TextHashes.{HasTaken, IsClearHash};
+    ghost use Rattle.aead_streams.specs.TextHashes.{HasTaken, IsClearTextHash};
 
     // The hash of the empty text under the hash subkey `h`.
     pub(crate) fn new(h: u128) -> TextHash
         ensures taken { HasTaken result h 0 [] }
-        ensures clear { h ≡ 0 → IsClearHash result }
+        ensures clear { h ≡ 0 → IsClearTextHash result }
     {
         TextHash {
             ghash: Ghash::new(h),
@@ -75,7 +75,7 @@ impl TextHash {
 
     // Clears the hash subkey, the value and the buffer.
     pub(crate) fn wipe(&mut self)
-        ensures { IsClearHash self.new }
+        ensures { IsClearTextHash self.new }
     {
         self.ghash.wipe();
         self.buffer.wipe();

@@ -1,6 +1,6 @@
 -- What several proofs of this crate cite of its words, and of other crates'.
 pub use Rattle.aes_core.specs.KeyFields.{IsInvScheduleOf, IsReadyOrWiped, IsScheduleOf, key_of}
-pub use Rattle.aes_core.specs.Words.{bytes_of, inv_mixed_word, mixed_column, products}
+pub use Rattle.aes_core.specs.Words.{word_bytes, inv_mixed_word, mixed_column, products}
 pub use Rattle.aes_core.specs.declared.inv_mixed_tables.TheConstants.{INV_MIXED_ROWS}
 pub use Rattle.aes_core.specs.declared.mixed_tables.TheConstants.{MIXED_ROWS}
 pub use Rattle.aes_core.specs.declared.tables.TheConstants.{INV_SBOX, SBOX}

@@ -1,5 +1,5 @@
 -- The key schedule, word by word.
-use Rattle.aes_core.proofs.Common.{IsKey, List, [], add_word, ap, ap₂, arith, bit_xor, bytes_of, eq-eqb, expanded, get_or-take, key_schedule, length, length-append, next_word, power_of_x, refl, rot_word, round_count, schedule_core, set, slice_index, sub_word, suc, sym, take, take-append-le, take-length, take-take, take_more_set, xor_words, zero, ℕ, ◌%◌, ◌*◌, ◌++◌, ◌+◌, ◌-◌, ◌/◌, ◌<◌, ◌∙◌, ◌∷◌, ◌≡◌, ◌≤◌}
+use Rattle.aes_core.proofs.Common.{IsKey, List, [], add_word, ap, ap₂, arith, bit_xor, word_bytes, eq-eqb, expanded, get_or-take, key_schedule, length, length-append, next_word, power_of_x, refl, rot_word, round_count, schedule_core, set, slice_index, sub_word, suc, sym, take, take-append-le, take-length, take-take, take_more_set, xor_words, zero, ℕ, ◌%◌, ◌*◌, ◌++◌, ◌+◌, ◌-◌, ◌/◌, ◌<◌, ◌∙◌, ◌∷◌, ◌≡◌, ◌≤◌}
 use Rattle.aes_core.proofs.WordBytes.{bytes_of-take, bytes_of-append, bytes_of_xor, word_at_is}
 
 -- the first of the three cases
@@ -23,15 +23,15 @@ next_word_of_taken words i s low h =
     ) refl
 
 -- word i written after the words before it
-pub word_added : (words i word : ℕ) (s : List ℕ) → 4 ≤ words → words ≤ i → i < length s → bytes_of (word ∷ []) ≡ next_word words (bytes_of s) i
-    → bytes_of (take (i + 1) (set s i word)) ≡ add_word words i (bytes_of (take i s))
+pub word_added : (words i word : ℕ) (s : List ℕ) → 4 ≤ words → words ≤ i → i < length s → word_bytes (word ∷ []) ≡ next_word words (word_bytes s) i
+    → word_bytes (take (i + 1) (set s i word)) ≡ add_word words i (word_bytes (take i s))
 word_added words i word s low h small e =
-    ap bytes_of (take_more_set s i word small) ∙ bytes_of-append (take i s) (word ∷ [])
-    ∙ ap (λ (l : List ℕ). bytes_of (take i s) ++ l) (e ∙ sym (next_word_of_taken words i (bytes_of s) low h) ∙ ap (λ (l : List ℕ). next_word words l i) (sym (bytes_of-take i s)))
+    ap word_bytes (take_more_set s i word small) ∙ bytes_of-append (take i s) (word ∷ [])
+    ∙ ap (λ (l : List ℕ). word_bytes (take i s) ++ l) (e ∙ sym (next_word_of_taken words i (word_bytes s) low h) ∙ ap (λ (l : List ℕ). next_word words l i) (sym (bytes_of-take i s)))
 
 -- word i of the words, and the core of the word before it
-pub next_word_is : (words i core : ℕ) (ws core_bytes : List ℕ) → bytes_of (core ∷ []) ≡ core_bytes → core_bytes ≡ schedule_core words i (bytes_of (slice_index ws (i - 1) ∷ []))
-    → bytes_of (bit_xor (slice_index ws (i - words)) core ∷ []) ≡ next_word words (bytes_of ws) i
+pub next_word_is : (words i core : ℕ) (ws core_bytes : List ℕ) → word_bytes (core ∷ []) ≡ core_bytes → core_bytes ≡ schedule_core words i (word_bytes (slice_index ws (i - 1) ∷ []))
+    → word_bytes (bit_xor (slice_index ws (i - words)) core ∷ []) ≡ next_word words (word_bytes ws) i
 next_word_is words i core ws core_bytes eb ec =
     bytes_of_xor (slice_index ws (i - words)) core
     ∙ ap₂ xor_words (sym (word_at_is ws (i - words))) (eb ∙ ec ∙ ap (schedule_core words i) (sym (word_at_is ws (i - 1))))
@@ -46,11 +46,11 @@ four_more (suc n) (x ∷ key) h =
     rw (more 4, more 1, more 2, more 3) (ap (λ (l : List ℕ). x ∷ l) (four_more n key (omega arith)))
 
 -- a word of the key after those before it
-pub key_word : (i word : ℕ) (s key : List ℕ) → i < length s → bytes_of (take i s) ≡ take (4 * i) key
-    → bytes_of (word ∷ []) ≡ slice_index key (4 * i) ∷ slice_index key (4 * i + 1) ∷ slice_index key (4 * i + 2) ∷ slice_index key (4 * i + 3) ∷ []
-    → 4 * i + 4 ≤ length key → bytes_of (take (i + 1) (set s i word)) ≡ take (4 * (i + 1)) key
+pub key_word : (i word : ℕ) (s key : List ℕ) → i < length s → word_bytes (take i s) ≡ take (4 * i) key
+    → word_bytes (word ∷ []) ≡ slice_index key (4 * i) ∷ slice_index key (4 * i + 1) ∷ slice_index key (4 * i + 2) ∷ slice_index key (4 * i + 3) ∷ []
+    → 4 * i + 4 ≤ length key → word_bytes (take (i + 1) (set s i word)) ≡ take (4 * (i + 1)) key
 key_word i word s key small before e room =
-    ap bytes_of (take_more_set s i word small) ∙ bytes_of-append (take i s) (word ∷ []) ∙ ap₂ (λ (l m : List ℕ). l ++ m) before e
+    ap word_bytes (take_more_set s i word small) ∙ bytes_of-append (take i s) (word ∷ []) ∙ ap₂ (λ (l m : List ℕ). l ++ m) before e
     ∙ sym (four_more (4 * i) key room) ∙ ap (λ (n : ℕ). take n key) (omega arith)
 
 pub expanded_next : (words i : ℕ) (key s : List ℕ) → words ≤ i → s ≡ expanded words key (i - words) → add_word words i s ≡ expanded words key (i + 1 - words)
@@ -61,7 +61,7 @@ expanded_next words i key s h e =
     rw (n, back, e) refl
 
 -- the words of a key begin its schedule
-pub words_start : (k s : List ℕ) (nr : ℕ) → IsKey k → nr ≡ round_count k → bytes_of (take (length k / 4) s) ≡ k → bytes_of (take (nr - 6) s) ≡ expanded (nr - 6) k (nr - 6 - (nr - 6))
+pub words_start : (k s : List ℕ) (nr : ℕ) → IsKey k → nr ≡ round_count k → word_bytes (take (length k / 4) s) ≡ k → word_bytes (take (nr - 6) s) ≡ expanded (nr - 6) k (nr - 6 - (nr - 6))
 unfolding expanded
 words_start k s nr key er h =
     let count : nr - 6 ≡ length k / 4 = omega arith in
@@ -78,17 +78,17 @@ expanded_begins words k (suc n) =
       take-append-le (length k) w (next_word words w (words + n)) before.0 ∙ before.1,
     )
 
-pub schedule_begins : (k s : List ℕ) (nr : ℕ) → IsKey k → nr ≡ round_count k → bytes_of (take (4 * (nr + 1)) s) ≡ key_schedule k → bytes_of (take (nr - 6) s) ≡ k
+pub schedule_begins : (k s : List ℕ) (nr : ℕ) → IsKey k → nr ≡ round_count k → word_bytes (take (4 * (nr + 1)) s) ≡ key_schedule k → word_bytes (take (nr - 6) s) ≡ k
 unfolding key_schedule
 schedule_begins k s nr key er e =
     let nk : ℕ = length k / 4 in
     let front : take (nr - 6) s ≡ take (nr - 6) (take (4 * (nr + 1)) s) = sym (take-take (nr - 6) (4 * (nr + 1)) s (omega arith)) in
     let count : 4 * (nr - 6) ≡ length k = omega arith in
-    ap bytes_of front ∙ bytes_of-take (nr - 6) (take (4 * (nr + 1)) s) ∙ rw (count, e) ((expanded_begins nk k (4 * (nk + 6 + 1) - nk)).1)
+    ap word_bytes front ∙ bytes_of-take (nr - 6) (take (4 * (nr + 1)) s) ∙ rw (count, e) ((expanded_begins nk k (4 * (nk + 6 + 1) - nk)).1)
 
-pub schedule_done : (k s : List ℕ) (nr i : ℕ) → nr ≡ length k / 4 + 6 → i ≡ 4 * (nr + 1) → bytes_of (take i s) ≡ expanded (nr - 6) k (i - (nr - 6)) → bytes_of (take (4 * (nr + 1)) s) ≡ key_schedule k
+pub schedule_done : (k s : List ℕ) (nr i : ℕ) → nr ≡ length k / 4 + 6 → i ≡ 4 * (nr + 1) → word_bytes (take i s) ≡ expanded (nr - 6) k (i - (nr - 6)) → word_bytes (take (4 * (nr + 1)) s) ≡ key_schedule k
 unfolding key_schedule
 schedule_done k s nr i er ei e =
     let words : nr - 6 ≡ length k / 4 = omega arith in
     let count : i - (nr - 6) ≡ 4 * (length k / 4 + 6 + 1) - length k / 4 = omega arith in
-    ap (λ (n : ℕ). bytes_of (take n s)) (sym ei) ∙ e ∙ ap₂ (λ (a b : ℕ). expanded a k b) words count
+    ap (λ (n : ℕ). word_bytes (take n s)) (sym ei) ∙ e ∙ ap₂ (λ (a b : ℕ). expanded a k b) words count

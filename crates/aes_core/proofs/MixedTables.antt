@@ -1,5 +1,5 @@
 -- The tables of the rounds and of the inverse rounds, entry by entry.
-use Rattle.aes_core.proofs.Common.{INV_MIXED_ROWS, INV_SBOX, List, MIXED_ROWS, SBOX, [], ap, arith, bit_xor, byte_at, bytes_of, get_or, holds_values, length, mixed_column, products, refl, slice_index, sum_of_shifts, true, value_of, ℕ, ◌/◌, ◌<◌, ◌^◌, ◌∙◌, ◌∷◌, ◌≡◌}
+use Rattle.aes_core.proofs.Common.{INV_MIXED_ROWS, INV_SBOX, List, MIXED_ROWS, SBOX, [], ap, arith, bit_xor, byte_at, word_bytes, get_or, holds_values, length, mixed_column, products, refl, slice_index, sum_of_shifts, true, value_of, ℕ, ◌/◌, ◌<◌, ◌^◌, ◌∙◌, ◌∷◌, ◌≡◌}
 use Rattle.aes_core.proofs.ColumnSums.{column_of_entries}
 
 abbrev pub row : List (List ℕ) → ℕ → List ℕ
@@ -30,7 +30,7 @@ inv_mixed_rows = record { row_0 = refl; row_1 = refl; row_2 = refl; row_3 = refl
 -- an entry of each table, at a byte of each word, where the box is the function f
 pub column_of_tables : (rows : List (List ℕ)) (box : List ℕ) (f : ℕ → ℕ) (a0 a1 a2 a3 a b c d : ℕ) → HoldRows rows box a0 a1 a2 a3
     → ((x : ℕ) → x < 256 → slice_index box x ≡ f x) → ((x : ℕ) → f x < 256) → a < 2 ^ 32
-    → bytes_of (bit_xor (bit_xor (bit_xor (slice_index (row rows 0) (a / 2 ^ 24)) (slice_index (row rows 1) (byte_at 2 b))) (slice_index (row rows 2) (byte_at 1 c))) (slice_index (row rows 3) (byte_at 0 d)) ∷ [])
+    → word_bytes (bit_xor (bit_xor (bit_xor (slice_index (row rows 0) (a / 2 ^ 24)) (slice_index (row rows 1) (byte_at 2 b))) (slice_index (row rows 2) (byte_at 1 c))) (slice_index (row rows 3) (byte_at 0 d)) ∷ [])
     ≡ mixed_column a0 a1 a2 a3 (f (byte_at 3 a)) (f (byte_at 2 b)) (f (byte_at 1 c)) (f (byte_at 0 d))
 column_of_tables rows box f a0 a1 a2 a3 a b c d h box_is all small =
     let at : (t : List ℕ) (b0 b1 b2 b3 x : ℕ) → HoldsRow t box b0 b1 b2 b3 → length t ≡ 256 → x < 256 → slice_index t x ≡ products b0 b1 b2 b3 (f x) =

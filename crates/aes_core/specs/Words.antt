@@ -4,9 +4,9 @@ use Rattle.std.specs.Int.{w32, byte_at, from_be_bytes}
 use Rattle.crypto_specs.specs.Prelude.{gf_mul, mixed}
 
 -- the bytes of words
-abbrev pub bytes_of : List ℕ → List ℕ
-bytes_of [] = []
-bytes_of (w ∷ ws) = byte_at 3 w ∷ byte_at 2 w ∷ byte_at 1 w ∷ byte_at 0 w ∷ bytes_of ws
+abbrev pub word_bytes : List ℕ → List ℕ
+word_bytes [] = []
+word_bytes (w ∷ ws) = byte_at 3 w ∷ byte_at 2 w ∷ byte_at 1 w ∷ byte_at 0 w ∷ word_bytes ws
 
 -- the column of the bytes b0, b1, b2, b3, times the matrix whose first row is a0, a1, a2, a3 and each
 -- further row the one before it turned right by one

@@ -3,7 +3,7 @@
 ghost use Rattle.std.specs.Prelude.{◌≡◌, [], ◌∷◌};
 ghost use Rattle.std.specs.Int.{byte_at};
 ghost use Rattle.crypto_specs.specs.Prelude.{inv_sbox, inv_sub_bytes, inv_shift_rows, inv_mix_columns};
-ghost use Rattle.aes_core.specs.Words.{bytes_of, inv_mixed_word};
+ghost use Rattle.aes_core.specs.Words.{word_bytes, inv_mixed_word};
 
 use crate::columns::word_of;
 use crate::inv_mixed_tables::inv_mixed_column;
@@ -11,7 +11,7 @@ use crate::tables::{inv_sub_byte, sub_byte};
 
 // InvShiftRows, InvSubBytes and InvMixColumns.
 pub(crate) fn inv_mixed_columns(s: [u32; 4]) -> [u32; 4]
-    ensures { bytes_of result ≡ inv_mix_columns (inv_sub_bytes (inv_shift_rows (bytes_of s))) }
+    ensures { word_bytes result ≡ inv_mix_columns (inv_sub_bytes (inv_shift_rows (word_bytes s))) }
 {
     [
         inv_mixed_column(s[0], s[3], s[2], s[1]),
@@ -23,7 +23,7 @@ pub(crate) fn inv_mixed_columns(s: [u32; 4]) -> [u32; 4]
 
 // A column of the last round: row 0 of `a`, row 1 of `b`, row 2 of `c`, row 3 of `d`.
 fn inv_last_column(a: u32, b: u32, c: u32, d: u32) -> u32
-    ensures { bytes_of (result ∷ []) ≡ inv_sbox (byte_at 3 a) ∷ inv_sbox (byte_at 2 b) ∷ inv_sbox (byte_at 1 c) ∷ inv_sbox (byte_at 0 d) ∷ [] }
+    ensures { word_bytes (result ∷ []) ≡ inv_sbox (byte_at 3 a) ∷ inv_sbox (byte_at 2 b) ∷ inv_sbox (byte_at 1 c) ∷ inv_sbox (byte_at 0 d) ∷ [] }
 {
     word_of(&[
         inv_sub_byte(a.to_be_bytes()[0]),
@@ -35,7 +35,7 @@ fn inv_last_column(a: u32, b: u32, c: u32, d: u32) -> u32
 
 // InvShiftRows and InvSubBytes, as the last round has them.
 pub(crate) fn inv_last_columns(s: [u32; 4]) -> [u32; 4]
-    ensures { bytes_of result ≡ inv_sub_bytes (inv_shift_rows (bytes_of s)) }
+    ensures { word_bytes result ≡ inv_sub_bytes (inv_shift_rows (word_bytes s)) }
 {
     [
         inv_last_column(s[0], s[3], s[2], s[1]),
@@ -47,7 +47,7 @@ pub(crate) fn inv_last_columns(s: [u32; 4]) -> [u32; 4]
 
 // InvMixColumns of one column, by the tables, whose InvSubBytes the S-box takes back.
 pub(crate) fn inv_mixed_word(column: u32) -> u32
-    ensures { bytes_of (result ∷ []) ≡ inv_mixed_word (bytes_of (column ∷ [])) }
+    ensures { word_bytes (result ∷ []) ≡ inv_mixed_word (word_bytes (column ∷ [])) }
 {
     let [a, b, c, d] = column.to_be_bytes();
     let boxed = word_of(&[sub_byte(a), sub_byte(b), sub_byte(c), sub_byte(d)]);

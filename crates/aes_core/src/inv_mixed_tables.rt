@@ -3,7 +3,7 @@
 ghost use Rattle.std.specs.Prelude.{◌≡◌, [], ◌∷◌};
 ghost use Rattle.std.specs.Int.{byte_at};
 ghost use Rattle.crypto_specs.specs.Prelude.{inv_sbox};
-ghost use Rattle.aes_core.specs.Words.{bytes_of, mixed_column};
+ghost use Rattle.aes_core.specs.Words.{word_bytes, mixed_column};
 
 const INV_MIXED_ROWS: [[u32; 256]; 4] = [
     [
@@ -166,7 +166,7 @@ const INV_MIXED_ROWS: [[u32; 256]; 4] = [
 
 // The column that four bytes give, one of each row: row 0 of `a`, row 1 of `b`, row 2 of `c`, row 3 of `d`.
 pub(crate) fn inv_mixed_column(a: u32, b: u32, c: u32, d: u32) -> u32
-    ensures { bytes_of (result ∷ []) ≡ mixed_column 14 11 13 9 (inv_sbox (byte_at 3 a)) (inv_sbox (byte_at 2 b)) (inv_sbox (byte_at 1 c)) (inv_sbox (byte_at 0 d)) }
+    ensures { word_bytes (result ∷ []) ≡ mixed_column 14 11 13 9 (inv_sbox (byte_at 3 a)) (inv_sbox (byte_at 2 b)) (inv_sbox (byte_at 1 c)) (inv_sbox (byte_at 0 d)) }
 {
     INV_MIXED_ROWS[0][(a >> 24) as usize]
         ^ INV_MIXED_ROWS[1][(b >> 16) as usize % 256]

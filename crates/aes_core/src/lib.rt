@@ -3,7 +3,7 @@
 
 ghost use Rattle.std.specs.Prelude.{◌≡◌, ℕ, List, [], MatchOption};
 ghost use Rattle.crypto_specs.specs.Prelude.{aes_encrypt, IsKey, aes_decrypt, number_block};
-ghost use Rattle.aes_core.specs.KeyFields.{IsWiped};
+ghost use Rattle.aes_core.specs.KeyFields.{IsWipedKey};
 
 use cipher_blocks::number_of;
 use inv_schedule::inv_key_expansion;
@@ -117,5 +117,5 @@ impl Drop for AesKey {
 
 // What is let go of a key: no rounds, and schedules of zeros.
 fn release(rounds: usize, schedule: &[u32; 60], inverse: &[u32; 60])
-    requires { IsWiped rounds schedule.now inverse.now }
+    requires { IsWipedKey rounds schedule.now inverse.now }
 {}

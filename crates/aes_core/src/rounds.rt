@@ -2,7 +2,7 @@
 
 ghost use Rattle.std.specs.Prelude.{◌≡◌, ◌-◌, ◌%◌, ◌<◌, ◌≤◌, ℕ, List};
 ghost use Rattle.crypto_specs.specs.Prelude.{number_block, cipher, rounds, inv_cipher, inv_rounds};
-ghost use Rattle.aes_core.specs.Words.{bytes_of};
+ghost use Rattle.aes_core.specs.Words.{word_bytes};
 ghost use Rattle.aes_core.specs.KeyFields.{IsInvScheduleOf};
 
 use crate::columns::{add_round_key, block_of, columns_of, last_columns, mixed_columns};
@@ -12,7 +12,7 @@ use crate::inv_columns::{inv_last_columns, inv_mixed_columns};
 pub(crate) fn cipher(schedule: &[u32; 60], rounds: usize, block: u128) -> u128
     requires low { 1 ≤ rounds }
     requires high { rounds < 15 }
-    ensures { number_block result ≡ cipher (bytes_of schedule.now) rounds (number_block block) }
+    ensures { number_block result ≡ cipher (word_bytes schedule.now) rounds (number_block block) }
 {
     let mut state = first_rounds(schedule, rounds, block);
     let mut round = 2 - rounds % 2;
@@ -28,7 +28,7 @@ pub(crate) fn cipher(schedule: &[u32; 60], rounds: usize, block: u128) -> u128
 // The state that an even number of rounds but the last one are left for.
 fn first_rounds(schedule: &[u32; 60], count: usize, block: u128) -> [u32; 4]
     requires { 1 ≤ count }
-    ensures { bytes_of result ≡ rounds (bytes_of schedule.now) (number_block block) (1 - count % 2) }
+    ensures { word_bytes result ≡ rounds (word_bytes schedule.now) (number_block block) (1 - count % 2) }
 {
     let state = add_round_key(schedule, columns_of(block), 0);
     if count % 2 == 1 {
@@ -42,7 +42,7 @@ pub(crate) fn eq_inv_cipher(inverse: &[u32; 60], rounds: usize, block: u128) -> 
     requires low { 1 ≤ rounds }
     requires high { rounds < 15 }
     ensures { (schedule : List ℕ) → IsInvScheduleOf rounds schedule inverse.now
-        → number_block result ≡ inv_cipher (bytes_of schedule) rounds (number_block block) }
+        → number_block result ≡ inv_cipher (word_bytes schedule) rounds (number_block block) }
 {
     let mut state = first_inv_rounds(inverse, rounds, block);
     let mut round = 2 - rounds % 2;
@@ -59,7 +59,7 @@ fn first_inv_rounds(inverse: &[u32; 60], count: usize, block: u128) -> [u32; 4]
     requires low { 1 ≤ count }
     requires high { count < 15 }
     ensures { (schedule : List ℕ) → IsInvScheduleOf count schedule inverse.now
-        → bytes_of result ≡ inv_rounds (bytes_of schedule) count (number_block block) (1 - count % 2) }
+        → word_bytes result ≡ inv_rounds (word_bytes schedule) count (number_block block) (1 - count % 2) }
 {
     let state = add_round_key(inverse, columns_of(block), count);
     if count % 2 == 1 {

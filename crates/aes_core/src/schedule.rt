@@ -3,7 +3,7 @@
 
 ghost use Rattle.std.specs.Prelude.{◌≡◌, ◌+◌, ◌-◌, ◌*◌, ◌/◌, ◌<◌, ◌≤◌, [], ◌∷◌, length, take};
 ghost use Rattle.crypto_specs.specs.Prelude.{IsKey, xor_words, sub_word, rot_word, schedule_core, next_word, key_schedule, round_count};
-ghost use Rattle.aes_core.specs.Words.{bytes_of};
+ghost use Rattle.aes_core.specs.Words.{word_bytes};
 
 use crate::columns::word_of;
 use crate::tables::sub_byte;
@@ -59,7 +59,7 @@ fn next_word(schedule: &[u32; 60], words: usize, i: usize) -> u32
     requires high { words ≤ i }
     requires small { i < 11 * words }
     requires end { i < 60 }
-    ensures { bytes_of (result ∷ []) ≡ next_word words (bytes_of schedule.now) i }
+    ensures { word_bytes (result ∷ []) ≡ next_word words (word_bytes schedule.now) i }
 {
     let core = schedule_core(words, i, schedule[i - 1].to_be_bytes());
     schedule[i - words] ^ word_of(&core)
@@ -69,7 +69,7 @@ fn next_word(schedule: &[u32; 60], words: usize, i: usize) -> u32
 fn with_room(key: &[u8]) -> [u32; 60]
     requires { IsKey key.now }
     ensures length { length result ≡ 60 }
-    ensures words { bytes_of (take (length key.now / 4) result) ≡ key.now }
+    ensures words { word_bytes (take (length key.now / 4) result) ≡ key.now }
 {
     let mut schedule = [0; 60];
     'words: for i in 0..key.len() / 4 {
@@ -82,8 +82,8 @@ fn with_room(key: &[u8]) -> [u32; 60]
 pub(crate) fn key_expansion(key: &[u8], rounds: usize) -> [u32; 60]
     requires key { IsKey key.now }
     requires count { rounds ≡ round_count key.now }
-    ensures key { bytes_of (take (rounds - 6) result) ≡ key.now }
-    ensures words { bytes_of (take (4 * (rounds + 1)) result) ≡ key_schedule key.now }
+    ensures key { word_bytes (take (rounds - 6) result) ≡ key.now }
+    ensures words { word_bytes (take (4 * (rounds + 1)) result) ≡ key_schedule key.now }
 {
     let words = rounds - 6;
     let mut schedule = with_room(key);

@@ -1,7 +1,7 @@
 -- What several proofs of this crate cite of its words, and of other crates'.
-pub use Rattle.alg_encoding.specs.Encoding.{has_flag, if_permitted, length_bits, lengths_of, low_byte, tagged_or, without_tag}
+pub use Rattle.alg_encoding.specs.Encoding.{has_flag, if_permitted, length_bits, lengths_of, named_hash_byte, tagged_or, without_tag}
 unfoldable pub use Rattle.alg_encoding.specs.Encoding.{base_of, entry_of, hash_byte_of, is_concrete, is_wildcard, minimum_of, tag_length_of}
-pub use Rattle.alg_encoding.specs.Table.{has_length, hash_length, longest_tag, permits_length, stated_length, table}
+pub use Rattle.alg_encoding.specs.Table.{has_length, named_hash_length, longest_tag, permits_length, stated_length, table}
 unfoldable pub use Rattle.alg_encoding.specs.Table.{base_at}
 pub use Rattle.alg_encoding.specs.declared.table.Base.{Base}
 pub use Rattle.alg_encoding.specs.declared.table.Lengths.{Lengths}

@@ -1,4 +1,4 @@
-pub mod Rooms
+pub mod Allotments
 pub mod Staff
 pub mod Given
 pub mod Replies

@@ -44,7 +44,7 @@ module _ {D A C G : Type 0} {d : Disk.Ghosts D} {a : Devices.Ghosts A} {c : Admi
     pub given_is : reply.result ≡ reads given answer
     pub again : MayCall new
     pub ranked : IfSome reply.rank (λ rank. IsAnswered (world service.shared) old.pass.me.0 new.pass.me.0 (model_request call (length out_old)) rank answer out_old out_new)
-    pub counts : IfSome reply.rank (λ rank. (operations : List HandleOperation) → AreOperations old.handles.cells.items operations →
+    pub counts : IfSome reply.rank (λ rank. (operations : List HandleOperation) → AreOperations old.handles.list.items operations →
         (old.spent + asked_for call operations ≤ service.worn) × (new.spent ≡ old.spent + counted_by call operations answer))
-    pub worn : IfNone reply.rank ((operations : List HandleOperation) → AreOperations old.handles.cells.items operations →
+    pub worn : IfNone reply.rank ((operations : List HandleOperation) → AreOperations old.handles.list.items operations →
         (service.worn < old.spent + asked_for call operations) × (answer ≡ Err PassWorn) × (new ≡ old) × (out_new ≡ out_old))

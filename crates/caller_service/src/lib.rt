@@ -3,12 +3,12 @@
 //! refused for.
 #![tactic(auto)]
 
+mod allotments;
 mod client;
 mod closing;
 mod keys;
 mod operations;
 mod replies;
-mod rooms;
 mod service;
 
 pub use client::Client;

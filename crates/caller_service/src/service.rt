@@ -11,11 +11,11 @@ ghost use Rattle.callers.specs.Called.{IsAnswered};
 ghost use Rattle.callers.specs.Handles.{AreOperations};
 ghost use Rattle.callers.specs.Ready.{IsReady};
 ghost use Rattle.caller_service.specs.Closing.{IsClosedOver, WereRetired};
-ghost use Rattle.caller_service.specs.Rooms.{IsRoom};
+ghost use Rattle.caller_service.specs.Allotments.{IsAllotment};
 ghost use Rattle.caller_service.specs.Staff.{AreStaff};
 
+use crate::allotments::{self, Allotment};
 use crate::closing::{hand_in, retire_all};
-use crate::rooms::{self, Room};
 use admission::Admission;
 use callers::{Caller, Gate, GatePoint};
 use disk_face::Disk;
@@ -54,43 +54,43 @@ pub struct Closed<D: Disk, A: Devices, C: Admission> {
     pub ended: Snapshot<Vec<Caller<D, A, C>>>,
 }
 
-// A caller for each pass, with a room of its own.
+// A caller for each pass, with an allotment of its own.
 fn seat<D: Disk, A: Devices, C: Admission>(
     shared: &SharedStore<D, A, C>,
     seed: &[u8; 32],
     passes: Vec<Pass<Held<D, A, C>>>,
-    rooms: Vec<Room>,
+    allotments: Vec<Allotment>,
     callers: &mut Vec<Caller<D, A, C>>,
 )
     requires passes { AreNew (world shared.now).lock (world shared.now).opened 16 passes.items }
     requires sound { (start : model_Service) → IsStartOf (world shared.now) start → IsSoundStore start.store }
     requires seed { seed.now ≡ (world shared.now).opened.seed.value }
-    requires rooms { (length rooms.items ≡ 16) × All IsRoom rooms.items }
+    requires allotments { (length allotments.items ≡ 16) × All IsAllotment allotments.items }
     requires callers { (callers.old.items ≡ []) × (16 ≤ vec_capacity callers.old) }
     ensures { AreStaff (world shared.now) callers.new.items }
 {
-    let mut rooms = rooms;
+    let mut allotments = allotments;
     let mut number = 0;
     for pass in passes {
         number += 1;
-        let Room { spares, cells } = rooms.pop().unwrap();
-        callers.push_reserved(Caller::new(shared, pass, number, seed, spares, cells));
+        let Allotment { spares, handles } = allotments.pop().unwrap();
+        callers.push_reserved(Caller::new(shared, pass, number, seed, spares, handles));
     }
-    rooms.destroy_empty();
+    allotments.destroy_empty();
 }
 
-// What a service needs of memory beside its store: rooms for the callers, and a list for them.
+// What a service needs of memory beside its store: allotments for the callers, and a list for them.
 fn take_memory<D: Disk, A: Devices, C: Admission>(
     alloc: Global,
-) -> Result<(Vec<Room>, Vec<Caller<D, A, C>>), Memory>
-    ensures rooms { IfOk result (λ taken. (length taken.0.items ≡ 16) × All IsRoom taken.0.items) }
+) -> Result<(Vec<Allotment>, Vec<Caller<D, A, C>>), Memory>
+    ensures allotments { IfOk result (λ taken. (length taken.0.items ≡ 16) × All IsAllotment taken.0.items) }
     ensures callers { IfOk result (λ taken. (taken.1.items ≡ []) × (16 ≤ vec_capacity taken.1)) }
 {
-    let rooms = rooms::take(alloc, CALLERS)?;
+    let allotments = allotments::take(alloc, CALLERS)?;
     match Vec::with_capacity(alloc, CALLERS) {
-        Ok(callers) => Ok((rooms, callers)),
+        Ok(callers) => Ok((allotments, callers)),
         Err(_) => {
-            rooms::free(rooms);
+            allotments::free(allotments);
             Err(Memory)
         }
     }
@@ -125,7 +125,7 @@ impl<D: Disk, A: Devices, C: Admission, G: Gate> Service<D, A, C, G> {
         ensures refused { IfErr result (λ unopened. IsNotOpened D.Disk disk unopened.disk unopened.fault) }
         ensures returned { IfErr result (λ unopened. unopened.devices ≡ devices) }
     {
-        let (rooms, mut callers) = match take_memory(alloc) {
+        let (allotments, mut callers) = match take_memory(alloc) {
             Ok(taken) => taken,
             Err(Memory) => {
                 return Err(Unopened {
@@ -137,11 +137,11 @@ impl<D: Disk, A: Devices, C: Admission, G: Gate> Service<D, A, C, G> {
         };
         match SharedStore::open(alloc, disk, devices, rules, seed) {
             Ok((shared, passes)) => {
-                seat(&shared, seed, passes, rooms, &mut callers);
+                seat(&shared, seed, passes, allotments, &mut callers);
                 Ok((Service { shared, worn, gate }, callers))
             }
             Err(unopened) => {
-                rooms::free(rooms);
+                allotments::free(allotments);
                 callers.destroy_empty();
                 Err(unopened)
             }
@@ -163,9 +163,9 @@ impl<D: Disk, A: Devices, C: Admission, G: Gate> Service<D, A, C, G> {
         ensures ready { IsReady (world self.now.shared) 0 caller.new }
         ensures within { caller.new.spent ≤ self.now.worn }
         ensures ranked { IfSome result.0 (λ rank. IsAnswered (world self.now.shared) caller.old.pass.me.0 caller.new.pass.me.0 (model_request call.now (length out.old)) rank result.1 out.old out.new) }
-        ensures counts { IfSome result.0 (λ rank. (operations : List HandleOperation) → AreOperations caller.old.handles.cells.items operations →
+        ensures counts { IfSome result.0 (λ rank. (operations : List HandleOperation) → AreOperations caller.old.handles.list.items operations →
             (caller.old.spent + asked_for call.now operations ≤ self.now.worn) × (caller.new.spent ≡ caller.old.spent + counted_by call.now operations result.1)) }
-        ensures worn { IfNone result.0 ((operations : List HandleOperation) → AreOperations caller.old.handles.cells.items operations →
+        ensures worn { IfNone result.0 ((operations : List HandleOperation) → AreOperations caller.old.handles.list.items operations →
             (self.now.worn < caller.old.spent + asked_for call.now operations) × (result.1 ≡ Err PassWorn) × (caller.new ≡ caller.old) × (out.new ≡ out.old)) }
     {
         let answer = caller.answer(rt, &self.shared, &self.gate, self.worn, call, out);

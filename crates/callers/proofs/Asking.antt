@@ -1,6 +1,6 @@
--- Whether the key of a cell's operation is still there, by what a turn says of the lease's number.
+-- Whether the key of a handle's operation is still there, by what a turn says of the lease's number.
 use Rattle.std.proofs.Common.{Bool, Err, List, None, Ok, OnErr, OnOk, Option, Result, Some, [], ap, arith, false, get_or, refl, subst, sym, true, ℕ, ⊎_elim, ◌++◌, ◌-◌, ◌<◌, ◌∙◌, ◌∷◌, ◌≡◌, ◌≤◌}
-use Rattle.callers.proofs.Common.{Active, Caller, Cell, DecidesAfter, Entry, HandleOperation, HasNumber, InError, Inactive, IsCalled, IsOperation, IsRanked, IsReady, KeyCreation, KnowsBefore, LeavesAllKeys, OnHandle, OnStore, Operation, Plain, Reading, Request, Service, Status, Success, Work, World, by_number, counted, false≢true, held_with, is_active, is_alive, key_of_operation, leaves_shared, may_change_keys, operation_at, operation_of, outcome_of, plain_step, replay, replay_push}
+use Rattle.callers.proofs.Common.{Active, Caller, OperationHandle, DecidesAfter, Entry, HandleOperation, HasNumber, InError, Inactive, IsCalled, IsOperation, IsRanked, IsReady, KeyCreation, KnowsBefore, LeavesAllKeys, OnHandle, OnStore, Operation, Plain, Reading, Request, Service, Status, Success, Work, World, by_number, counted, false≢true, held_with, is_active, is_alive, key_of_operation, leaves_shared, may_change_keys, operation_at, operation_of, outcome_of, plain_step, replay, replay_push}
 use Rattle.std.specs.Result.{is_ok}
 use Rattle.std.specs.Option.{option_map}
 use Rattle.store_model.specs.Store as model
@@ -16,7 +16,7 @@ held_key key embed (Active w) e = refl
 held_key key embed Inactive e = cc
 held_key key embed InError e = cc
 
-pub key_of_cell : (c : Cell) (operation : HandleOperation) (s : IsOperation c operation) → is_active operation ≡ true → key_of_operation operation ≡ s.key
+pub key_of_cell : (c : OperationHandle) (operation : HandleOperation) (s : IsOperation c operation) → is_active operation ≡ true → key_of_operation operation ≡ s.key
 key_of_cell c operation s active =
     let of = s.are.stands in
     ap key_of_operation of.whole ∙ held_key s.key (embed_of s.are.family) of.own (ap is_active (sym of.whole) ∙ active)
@@ -29,8 +29,8 @@ no_key : (key : Option KeyCreation) → option_map (λ k. k.number) key ≡ None
 no_key None e = refl
 no_key (Some creation) e = cc
 
--- an operation whose cell has a lease is active, with the key of that creation
-pub leased_key : (c : Cell) (operation : HandleOperation) (lease : Reading) → IsOperation c operation → (is_active operation ≡ false → c.lease ≡ None) → c.lease ≡ Some lease →
+-- an operation whose handle has a lease is active, with the key of that creation
+pub leased_key : (c : OperationHandle) (operation : HandleOperation) (lease : Reading) → IsOperation c operation → (is_active operation ≡ false → c.lease ≡ None) → c.lease ≡ Some lease →
     (creation : KeyCreation) × (key_of_operation operation ≡ Some creation) × (creation.number ≡ lease.creation)
 leased_key c operation lease s over is = by (is_active operation) refl
   where
@@ -42,8 +42,8 @@ leased_key c operation lease s over is = by (is_active operation) refl
     by true e =
         let k = some_key s.key lease.creation (sym (ap (option_map (λ (l : Reading). l.creation)) is) ∙ s.leased) in (k.0, key_of_cell c operation s e ∙ k.1, k.2)
 
--- and one whose cell has none has no key
-pub unleased_key : (c : Cell) (operation : HandleOperation) → IsOperation c operation → c.lease ≡ None → key_of_operation operation ≡ None
+-- and one whose handle has none has no key
+pub unleased_key : (c : OperationHandle) (operation : HandleOperation) → IsOperation c operation → c.lease ≡ None → key_of_operation operation ≡ None
 unleased_key c Inactive s none = refl
 unleased_key c InError s none = refl
 unleased_key c (Active held) s none = key_of_cell c (Active held) s refl ∙ no_key s.key (sym s.leased ∙ ap (option_map (λ (l : Reading). l.creation)) none)
@@ -71,7 +71,7 @@ module _ {D A C : Type 0} (w : World D A C) (n : ℕ) (old new : Caller D A C) (
       (λ refused. refused_store service old.pass.me.0.number call (refused start is before c.goes_on (told_front (w.disk.contents w.opened.file.value.cells.disk) start (before ++ e ∷ []) before (e ∷ [], refl) tells)))
       leaves
 
-  module _ (handle : ℕ) (first : 1 ≤ handle) (last : handle ≤ 4) (cell : Cell) (at : cell ≡ get_or old.handles.cells.items (handle - 1) cell) where
+  module _ (handle : ℕ) (first : 1 ≤ handle) (last : handle ≤ 4) (cell : OperationHandle) (at : cell ≡ get_or old.handles.list.items (handle - 1) cell) where
     inside : handle - 1 < 4
     inside = omega arith
 
@@ -105,7 +105,7 @@ module _ {D A C : Type 0} (w : World D A C) (n : ℕ) (old new : Caller D A C) (
 
 -- the ranked turn of a call that asks so
 module _ {D A C : Type 0} (w : World D A C) (n : ℕ) (old new : Caller D A C) (r : IsReady w n old) (call : Request) (rank : ℕ) (handle : ℕ) (first : 1 ≤ handle) (last : handle ≤ 4)
-    (cell : Cell) (at : cell ≡ get_or old.handles.cells.items (handle - 1) cell) where
+    (cell : OperationHandle) (at : cell ≡ get_or old.handles.list.items (handle - 1) cell) where
   abbrev Asked : Bool → Type 0
   Asked alive = IsRanked old.pass.me.0 new.pass.me.0 call Plain rank old.pass.me.0.holding (KnowsBefore w (λ service. alive ≡ is_alive service.store (key_of_operation (operation_of service old.number handle))))
 

@@ -1,10 +1,10 @@
 -- A caller after a setup.
 use Rattle.std.proofs.Common.{Err, List, None, Ok, Result, ap, arith, cond, count_by, false, get_or, length, not, refl, subst, sym, true, ℕ, ◌+◌, ◌-◌, ◌<◌, ◌^◌, ◌∙◌, ◌∷◌, ◌≡◌, ◌≤◌}
-use Rattle.callers.proofs.Common.{After, AnswersReply, AreOperations, ArePairs, Caller, Cell, DecidesAfter, Entry, FaultMark, HandleOperation, Held, HoldsLease, Inactive, IsAnswered, IsAt, IsCalled, IsChanged, IsEntered, IsLent, IsOperation, IsReady, IsRefused, KeyUse, Keyed, KeyedSetup, Keyless, KeylessSetup, KnowsBefore, Legal, OnHandle, Output, Pairs, Plain, Reading, ReadsKey, Request, Setup, Status, TellsFailure, World, applied, buffer_after, busy, entries_of, failure_marked, id_read, is_inactive, lease_pair, leases_of, mark_of, may_change_keys, model_setup, operation_at, operation_of, outcome_of, plain_reply, refusal_without_key, replay, set-get_or, set_up_by, set_up_with_key, set_up_without_key, setups, stays, use_refusal, used_for, with_operation_at, work_without_key}
+use Rattle.callers.proofs.Common.{After, AnswersReply, AreOperations, ArePairs, Caller, OperationHandle, DecidesAfter, Entry, FaultMark, HandleOperation, Held, HoldsLease, Inactive, IsAnswered, IsAt, IsCalled, IsChanged, IsEntered, IsLent, IsOperation, IsReady, IsRefused, KeyUse, Keyed, KeyedSetup, Keyless, KeylessSetup, KnowsBefore, Legal, OnHandle, Output, Pairs, Plain, Reading, ReadsKey, Request, Setup, Status, TellsFailure, World, applied, buffer_after, busy, entries_of, failure_marked, id_read, is_inactive, lease_pair, leases_of, mark_of, may_change_keys, model_setup, operation_at, operation_of, outcome_of, plain_reply, refusal_without_key, replay, set-get_or, set_up_by, set_up_with_key, set_up_without_key, setups, stays, use_refusal, used_for, with_operation_at, work_without_key}
 use Rattle.std.specs.Result.{is_ok}
 use Rattle.psa_status.specs.declared.Status.TheVariants as status
 use Rattle.service_calls.specs.declared.output.Output.TheVariants as output
-use Rattle.callers.proofs.CellLists.{busy_put, cell_at, few, once, tally-cons}
+use Rattle.callers.proofs.HandleLists.{busy_put, cell_at, few, once, tally-cons}
 use Rattle.callers.proofs.Failing.{answers_plain, set_up_plainly}
 use Rattle.callers.proofs.Journeys.{called}
 use Rattle.callers.proofs.Looking.{AreSpares, same_spares}
@@ -17,9 +17,9 @@ pub waits_by : (operations : List HandleOperation) (handle : ℕ) (operation : H
 waits_by operations handle operation more last first four free enough =
     let b = busy_put operations (handle - 1) operation (let z = four in omega arith) in let o = ap (λ (x : HandleOperation). once (not (is_inactive x))) free in omega arith
 
--- what is said of a handle's cell holds of its operation
-pub at_handle : (P : HandleOperation → Type 0) (cells : List Cell) (operations : List HandleOperation) (handle : ℕ) → AreOperations cells operations → 1 ≤ handle → handle ≤ 4 →
-    ((c : Cell) (o : HandleOperation) → c ≡ get_or cells (handle - 1) c → IsOperation c o → P o) → P (operation_at operations handle)
+-- what is said of a handle holds of its operation
+pub at_handle : (P : HandleOperation → Type 0) (cells : List OperationHandle) (operations : List HandleOperation) (handle : ℕ) → AreOperations cells operations → 1 ≤ handle → handle ≤ 4 →
+    ((c : OperationHandle) (o : HandleOperation) → c ≡ get_or cells (handle - 1) c → IsOperation c o → P o) → P (operation_at operations handle)
 at_handle P cells operations handle are first last says =
     let at = cell_at cells (handle - 1) (let z = are.cells_are in omega arith) in says at.0 (operation_at operations handle) at.1 (are.each (handle - 1) at.0 (omega arith) at.1)
 
@@ -38,7 +38,7 @@ module _ {D A C : Type 0} (w : World D A C) (old new : Caller D A C) (r : IsRead
       ∙ (setups service old.number handle s ∙ (λ j. applied service old.number handle (set_up_by service.store (mine j) s)))
 
   module _ (after : After Held) (applies : KnowsBefore w (λ service. outcome_of service e ≡ applied service old.number handle after) before e) where
-    -- what such a call changes of a caller beside its pass and its cells, where so many leases are kept and it counts so often
+    -- what such a call changes of a caller beside its pass and its handles, where so many leases are kept and it counts so often
     pub record IsBegun (lent more : ℕ) : Type 0 where
       pub number : new.number ≡ old.number
       pub stream : new.stream ≡ old.stream
@@ -48,8 +48,8 @@ module _ {D A C : Type 0} (w : World D A C) (old new : Caller D A C) (r : IsRead
       pub few : more ≤ 1
       pub waits : busy (with_operation_at r.operations handle after.operation) ≤ busy r.operations + more
 
-    begun_ready : {lent more : ℕ} → IsBegun lent more → AreOperations new.handles.cells.items (with_operation_at r.operations handle after.operation) → ArePairs own (leases_of new.handles.cells.items) →
-        length (leases_of new.handles.cells.items) ≡ length (leases_of old.handles.cells.items) + lent → old.spent + more ≤ 2 ^ 48 → IsAt w new.pass → Legal w (entries_of new.pass.me.0.seen) → IsReady w 0 new
+    begun_ready : {lent more : ℕ} → IsBegun lent more → AreOperations new.handles.list.items (with_operation_at r.operations handle after.operation) → ArePairs own (leases_of new.handles.list.items) →
+        length (leases_of new.handles.list.items) ≡ length (leases_of old.handles.list.items) + lent → old.spent + more ≤ 2 ^ 48 → IsAt w new.pass → Legal w (entries_of new.pass.me.0.seen) → IsReady w 0 new
     begun_ready b stand leases count worn at legal =
         let left = i.on.turns_left in let spent = b.spent in let few = b.few in let place = ap (λ s. s.place) b.stream in
         ready w 4 old new r 1 request mark rank before e made (with_operation_at r.operations handle after.operation) 0 at legal (record {
@@ -67,12 +67,12 @@ module _ {D A C : Type 0} (w : World D A C) (old new : Caller D A C) (r : IsRead
           spent = omega arith;
         })
 
-    pub changed_ready : {more : ℕ} → IsBegun 0 more → IsChanged old.handles.cells.items new.handles.cells.items r.operations handle after.operation None → own ≡ old.pass.me.0.holding → old.spent + more ≤ 2 ^ 48 → IsAt w new.pass → Legal w (entries_of new.pass.me.0.seen) → IsReady w 0 new
+    pub changed_ready : {more : ℕ} → IsBegun 0 more → IsChanged old.handles.list.items new.handles.list.items r.operations handle after.operation None → own ≡ old.pass.me.0.holding → old.spent + more ≤ 2 ^ 48 → IsAt w new.pass → Legal w (entries_of new.pass.me.0.seen) → IsReady w 0 new
     changed_ready b change held = begun_ready b change.stand (λ f. ap (count_by f) held ∙ (r.leases f ∙ sym (change.leases f))) (let a = change.fewer in omega arith)
 
-    pub kept_ready : {more : ℕ} {lease : Reading} → IsBegun 1 more → HoldsLease old.handles.cells.items new.handles.cells.items r.operations handle after.operation lease → own ≡ lease_pair lease ∷ old.pass.me.0.holding → old.spent + more ≤ 2 ^ 48 → IsAt w new.pass → Legal w (entries_of new.pass.me.0.seen) → IsReady w 0 new
+    pub kept_ready : {more : ℕ} {lease : Reading} → IsBegun 1 more → HoldsLease old.handles.list.items new.handles.list.items r.operations handle after.operation lease → own ≡ lease_pair lease ∷ old.pass.me.0.holding → old.spent + more ≤ 2 ^ 48 → IsAt w new.pass → Legal w (entries_of new.pass.me.0.seen) → IsReady w 0 new
     kept_ready {lease = lease} b kept held = begun_ready b kept.stand (λ f.
-        let a = ap (count_by f) held in let b = tally-cons f (lease_pair lease) old.pass.me.0.holding in let c = tally-cons f (lease_pair lease) (leases_of old.handles.cells.items) in
+        let a = ap (count_by f) held in let b = tally-cons f (lease_pair lease) old.pass.me.0.holding in let c = tally-cons f (lease_pair lease) (leases_of old.handles.list.items) in
         let d = r.leases f in let k = kept.leases f in omega arith) kept.more
 
     pub begun_answered : (result : Result Output Status) → TellsFailure w result mark → AnswersReply result after.reply → ((buffer : List ℕ) → buffer ≡ buffer_after buffer after.reply) →
@@ -89,7 +89,7 @@ module _ {D A C : Type 0} (w : World D A C) (old new : Caller D A C) (r : IsRead
     abbrev bare : After Held
     bare = set_up_without_key (operation_at r.operations handle) s
 
-    pub bare_ready : (result : Result (Unit {0}) Status) → plain_reply result ≡ bare.reply → operation_at r.operations handle ≡ Inactive → IsChanged old.handles.cells.items new.handles.cells.items r.operations handle bare.operation None →
+    pub bare_ready : (result : Result (Unit {0}) Status) → plain_reply result ≡ bare.reply → operation_at r.operations handle ≡ Inactive → IsChanged old.handles.list.items new.handles.list.items r.operations handle bare.operation None →
         own ≡ old.pass.me.0.holding → new.number ≡ old.number → new.stream ≡ old.stream → new.spares ≡ old.spares → new.spent ≡ old.spent + cond (is_ok result) 1 0 → old.spent < 2 ^ 48 → IsAt w new.pass →
         Legal w (entries_of new.pass.me.0.seen) → IsReady w 0 new
     bare_ready result reply free change held number stream spares spent worn = changed_ready bare (sets_up (Keyless s) asks plain) (record {
@@ -124,8 +124,8 @@ module _ {D A C : Type 0} (w : World D A C) (old new : Caller D A C) (r : IsRead
       drawn = refl;
       few = omega arith;
       waits = let b = ap busy same_operations in omega arith;
-    }) (subst (λ h. AreOperations h.cells.items (with_operation_at r.operations handle o)) (sym handles) (subst (AreOperations old.handles.cells.items) (sym same_operations) r.stand))
-        (λ f. ap (count_by f) held ∙ (r.leases f ∙ ap (λ h. count_by f (leases_of h.cells.items)) (sym handles))) (let a = ap (λ h. length (leases_of h.cells.items)) handles in omega arith) (omega arith)
+    }) (subst (λ h. AreOperations h.list.items (with_operation_at r.operations handle o)) (sym handles) (subst (AreOperations old.handles.list.items) (sym same_operations) r.stand))
+        (λ f. ap (count_by f) held ∙ (r.leases f ∙ ap (λ h. count_by f (leases_of h.list.items)) (sym handles))) (let a = ap (λ h. length (leases_of h.list.items)) handles in omega arith) (omega arith)
 
     pub stayed_answered : TellsFailure w (Err why) mark → (buffer : List ℕ) → IsAnswered w old.pass.me.0 new.pass.me.0 request rank (Err why) buffer buffer
     stayed_answered failure = begun_answered (stays o why) applies (Err why) failure (refl, refl) (λ buffer. refl)
@@ -154,7 +154,7 @@ module _ {D A C : Type 0} (w : World D A C) (old new : Caller D A C) (r : IsRead
           let lent = decided_after w (IsLent (use_refusal wanted) s.key.0 lease) before e unchanging decided start is tells in
           sets_up (Keyed s) asks plain start is tells ∙ ap (applied service old.number handle) (ap (λ o. set_up_with_key service.store o s) free ∙ set_up_lent service.store s wanted lease uses lent)
 
-      pub lent_ready : HoldsLease old.handles.cells.items new.handles.cells.items r.operations handle begun.operation lease → own ≡ lease_pair lease ∷ old.pass.me.0.holding →
+      pub lent_ready : HoldsLease old.handles.list.items new.handles.list.items r.operations handle begun.operation lease → own ≡ lease_pair lease ∷ old.pass.me.0.holding →
           new.number ≡ old.number → new.stream ≡ old.stream → new.spent ≡ old.spent + 1 → AreSpares 1 old.spares new.spares → old.spent < 2 ^ 48 → IsAt w new.pass → Legal w (entries_of new.pass.me.0.seen) → IsReady w 0 new
       lent_ready kept held number stream spent spares worn = kept_ready begun lends (record {
         number = number;

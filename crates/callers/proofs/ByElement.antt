@@ -7,8 +7,8 @@ use Rattle.driver_dispatch.specs.Held.{HeldKeys}
 use Rattle.secure_element_calls.specs.declared.calls.ElementCall.TheVariants.{MacCompute, MacVerify, CtrEncrypt, CtrDecrypt}
 use Rattle.secure_element_calls.proofs.Answering.{refused_before}
 use Rattle.secure_element_calls.proofs.Replying.{asks, replies_are}
-use Rattle.store_model.specs.Prelude.{bytes_of}
-use Rattle.store_core.specs.Prelude.{IsAnswered}
+use Rattle.store_model.specs.Prelude.{bytes_of_key}
+use Rattle.store_core.specs.Prelude.{IsElementAnswered}
 use Rattle.callers.proofs.Owned.{failed_own, stored_own}
 
 -- WHAT IS DRAWN
@@ -57,17 +57,17 @@ module _ (store : Store) (caller : ℕ) (random : Random) (id room : ℕ) (resul
 
   element_drawn : (call : ElementCall) → MatchOption (first_row (all_rows call room found)) (IsOfElement call result) (λ status. result ≡ Err (Refused status)) →
       (step store caller random (model_call call id room)).drawn ≡ drawn_where (is_ok result && has_vector call)
-  element_drawn (MacCompute alg input) decided = none_drawn (first_row (key_rows (MacCompute alg input) found)) (element_reply (MacCompute alg input) (bytes_of found) room) ∙ no_vector result
-  element_drawn (MacVerify alg input mac) decided = none_drawn (first_row (key_rows (MacVerify alg input mac) found)) (element_reply (MacVerify alg input mac) (bytes_of found) room) ∙ no_vector result
-  element_drawn (CtrDecrypt input) decided = none_drawn (first_row (key_rows (CtrDecrypt input) found)) (element_reply (CtrDecrypt input) (bytes_of found) room) ∙ no_vector result
+  element_drawn (MacCompute alg input) decided = none_drawn (first_row (key_rows (MacCompute alg input) found)) (element_reply (MacCompute alg input) (bytes_of_key found) room) ∙ no_vector result
+  element_drawn (MacVerify alg input mac) decided = none_drawn (first_row (key_rows (MacVerify alg input mac) found)) (element_reply (MacVerify alg input mac) (bytes_of_key found) room) ∙ no_vector result
+  element_drawn (CtrDecrypt input) decided = none_drawn (first_row (key_rows (CtrDecrypt input) found)) (element_reply (CtrDecrypt input) (bytes_of_key found) room) ∙ no_vector result
   element_drawn (CtrEncrypt iv input) decided =
-      vector_drawn (first_row (key_rows (CtrEncrypt iv input) found)) (first_row (rows_before (CtrEncrypt iv input) room)) (random 16 ++ enciphered Ctr (bytes_of found) (random 16) input.now) result (CtrEncrypt iv input) tt
+      vector_drawn (first_row (key_rows (CtrEncrypt iv input) found)) (first_row (rows_before (CtrEncrypt iv input) room)) (random 16 ++ enciphered Ctr (bytes_of_key found) (random 16) input.now) result (CtrEncrypt iv input) tt
       (subst (λ o. MatchOption o (IsOfElement (CtrEncrypt iv input) result) (λ status. result ≡ Err (Refused status))) (first_of (key_rows (CtrEncrypt iv input) found) (rows_before (CtrEncrypt iv input) room)) decided) works
 
 -- THE ANSWER
 
 module _ (service : Service) (caller id : ℕ) (asked : KeyedCall) (element : ElementCall) (held : Option HeldKeys) (old new : List ℕ) (result : Result ℕ NotComputed)
-    (model : model_keyed_call asked id (length old) ≡ model_call element id (length old)) (a : IsAnswered held id element old new result (counted service.store)) where
+    (model : model_keyed_call asked id (length old) ≡ model_call element id (length old)) (a : IsElementAnswered held id element old new result (counted service.store)) where
   abbrev here : Option Key
   here = map.get service.store.keys id
 
@@ -80,12 +80,12 @@ module _ (service : Service) (caller id : ℕ) (asked : KeyedCall) (element : El
     where
       by : (o : Option Status) → first_row (key_rows element here) ≡ o → reply_on element (length old) here ≡ refusal status
       by None none =
-          ap (λ o. reply_unless o (element_reply element (bytes_of here) (length old))) none
-          ∙ refused_before element (bytes_of here) (length old) status (sym (first_row-back (key_rows element here) (rows_before element (length old)) none) ∙ row)
+          ap (λ o. reply_unless o (element_reply element (bytes_of_key here) (length old))) none
+          ∙ refused_before element (bytes_of_key here) (length old) status (sym (first_row-back (key_rows element here) (rows_before element (length old)) none) ∙ row)
       by (Some first) some =
           let is : Some first ≡ Some status = sym (first_row-front (key_rows element here) (rows_before element (length old)) first some) ∙ row in
           let same : first ≡ status = cc in
-          ap (λ o. reply_unless o (element_reply element (bytes_of here) (length old))) some ∙ ap refusal same
+          ap (λ o. reply_unless o (element_reply element (bytes_of_key here) (length old))) some ∙ ap refusal same
 
   module _ (vector : HasDrawn element (next_random service caller 16)) where
     plain : (plain_step service caller (OnStore call)).reply ≡ reply_on element (length old) here

@@ -1,7 +1,7 @@
 -- A handle's operation becomes another one, and its lease is kept or handed out.
 use Rattle.std.proofs.Common.{Bool, List, None, Option, Some, [], ap, arith, cond, count_by, false, get_or, inl, inr, length, length-append, refl, set, sym, true, ℕ, ⊎_elim, ◌++◌, ◌+◌, ◌-◌, ◌<◌, ◌∙◌, ◌∷◌, ◌≡◌, ◌⊎◌}
-use Rattle.callers.proofs.Common.{AreOperations, ArePairs, Cell, HandleOperation, HoldsLease, IsChanged, IsOperation, Pairs, Reading, false≢true, is_active, lease_pair, leases_of, pairs_of, sum_by-append}
-use Rattle.callers.proofs.CellLists.{leases_put, names_lease, put_cell, tally-cons}
+use Rattle.callers.proofs.Common.{AreOperations, ArePairs, OperationHandle, HandleOperation, HoldsLease, IsChanged, IsOperation, Pairs, Reading, false≢true, is_active, lease_pair, leases_of, pairs_of, sum_by-append}
+use Rattle.callers.proofs.HandleLists.{leases_put, names_lease, put_cell, tally-cons}
 
 -- the pairs of two leases, of which one is this one and the other none
 abbrev Halves : (given kept whole : Option Reading) → Type 0
@@ -18,7 +18,7 @@ count_all (p ∷ ps) = let m = tally-cons (λ q. true) p ps in let r = count_all
 pub length_alike : (one other : Pairs) → ArePairs one other → length one ≡ length other
 length_alike one other are = sym (count_all one) ∙ (are (λ p. true) ∙ count_all other)
 
-module _ (old : List Cell) (operations : List HandleOperation) (handle : ℕ) (cell next : Cell) (operation : HandleOperation) (lease : Option Reading)
+module _ (old : List OperationHandle) (operations : List HandleOperation) (handle : ℕ) (cell next : OperationHandle) (operation : HandleOperation) (lease : Option Reading)
     (are : AreOperations old operations) (inside : handle - 1 < 4) (at : cell ≡ get_or old (handle - 1) cell) where
   within : handle - 1 < length old
   within = let z = are.cells_are in omega arith
@@ -39,24 +39,24 @@ module _ (old : List Cell) (operations : List HandleOperation) (handle : ℕ) (c
       clash l e = cc
 
   -- by a step, after which one that is over hands its lease out
-  pub stepped : (mid : Cell) → mid.lease ≡ cell.lease → IsOperation next operation → (is_active operation ≡ true → (lease ≡ None) × (next ≡ mid)) → (is_active operation ≡ false → (lease ≡ mid.lease) × (next.lease ≡ None)) →
+  pub stepped : (mid : OperationHandle) → mid.lease ≡ cell.lease → IsOperation next operation → (is_active operation ≡ true → (lease ≡ None) × (next ≡ mid)) → (is_active operation ≡ false → (lease ≡ mid.lease) × (next.lease ≡ None)) →
       IsChanged old (set old (handle - 1) next) operations handle operation lease
   stepped mid same stands active over = by_halves stands (λ e. (over e).1) (of (is_active operation) refl)
     where
       of : (b : Bool) → is_active operation ≡ b → Halves lease next.lease cell.lease
-      of true e = inl ((active e).0, ap (λ (c : Cell). c.lease) (active e).1 ∙ same)
+      of true e = inl ((active e).0, ap (λ (c : OperationHandle). c.lease) (active e).1 ∙ same)
       of false e = inr ((over e).0 ∙ same, (over e).1)
 
   -- by a wipe
   pub wiped : lease ≡ cell.lease → next.lease ≡ None → IsOperation next operation → IsChanged old (set old (handle - 1) next) operations handle operation lease
   wiped given none stands = by_halves stands (λ e. none) (inr (given, none))
 
-  -- by a change of a cell that keeps what lease it has
+  -- by a change of a handle that keeps what lease it has
   pub same_lease : next.lease ≡ cell.lease → lease ≡ None → IsOperation next operation → (is_active operation ≡ false → next.lease ≡ None) → IsChanged old (set old (handle - 1) next) operations handle operation lease
   same_lease same none stands over = by_halves stands over (inl (none, same))
 
--- a cell without a lease is given one
-pub kept : (old : List Cell) (operations : List HandleOperation) (handle : ℕ) (cell next : Cell) (operation : HandleOperation) (lease : Reading) → AreOperations old operations → handle - 1 < 4 → cell ≡ get_or old (handle - 1) cell →
+-- a handle without a lease is given one
+pub kept : (old : List OperationHandle) (operations : List HandleOperation) (handle : ℕ) (cell next : OperationHandle) (operation : HandleOperation) (lease : Reading) → AreOperations old operations → handle - 1 < 4 → cell ≡ get_or old (handle - 1) cell →
     cell.lease ≡ None → next.lease ≡ Some lease → IsOperation next operation → is_active operation ≡ true → HoldsLease old (set old (handle - 1) next) operations handle operation lease
 kept old operations handle cell next operation lease are inside at none given stands active =
     let within : handle - 1 < length old = let z = are.cells_are in omega arith in

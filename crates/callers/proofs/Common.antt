@@ -11,20 +11,20 @@ pub use Rattle.locked_store.specs.Prelude.{CreatesKey, DecidesAfter, DecidesBefo
 pub use Rattle.multipart.specs.Turns.{is_active}
 pub use Rattle.operation_handles.proofs.Served.{setups, steps_are}
 pub use Rattle.operation_handles.proofs.ServedOutputs.{outputs}
-pub use Rattle.operation_handles.specs.Cells.{IsOperation}
+pub use Rattle.operation_handles.specs.Handles.{IsOperation}
 pub use Rattle.operation_handles.specs.KeyInputs.{RefusesKeyAt, TakesKeyAt, key_refused}
 pub use Rattle.operation_handles.specs.KeyOutputs.{IsDerivedKey, derived_key_refused}
 pub use Rattle.operation_handles.specs.Laws.{has_live_key}
 pub use Rattle.operation_handles.specs.Setups.{begun_with, refusal_without_key, set_up_by, set_up_with_key, set_up_without_key, work_begun, work_without_key}
 pub use Rattle.operation_handles.specs.Steps.{on_part, stepped_by}
-pub use Rattle.operation_handles.specs.declared.cell.Cell.{Cell}
+pub use Rattle.operation_handles.specs.declared.handle.OperationHandle.{OperationHandle}
 pub use Rattle.psa_status.proofs.Rows.{first_row-back, first_row-front}
 pub use Rattle.psa_status.specs.Rows.{Rows, first_row, unless}
 pub use Rattle.psa_status.specs.declared.Status.{Status}
 pub use Rattle.psa_status.specs.declared.Status.TheVariants.{DataCorrupt, HardwareFailure, InsufficientData, InvalidArgument, InvalidHandle, InvalidSignature, NotSupported, StorageFailure, Success}
 pub use Rattle.random_streams.specs.RandomWords.{RandomStream, drawn_from, next_bytes, random_bytes, words_used}
 pub use Rattle.secret_bytes.specs.Buffer.{Buffer, IsClear, bytes_of}
-pub use Rattle.secure_element_calls.specs.Answers.{AnswersCall, IsOfElement, mark_computed, status_of}
+pub use Rattle.secure_element_calls.specs.Answers.{AnswersCall, IsOfElement, mark_computed, not_computed_status}
 pub use Rattle.secure_element_calls.specs.Calls.{element_reply, model_call, rows_before}
 pub use Rattle.secure_element_calls.specs.Replies.{HasDrawn, all_rows, key_rows, reply_on}
 pub use Rattle.secure_element_calls.specs.declared.calls.ElementCall.{ElementCall}

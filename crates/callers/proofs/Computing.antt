@@ -3,14 +3,14 @@ use Rattle.std.proofs.Common.{Bool, Err, List, Result, ap, arith, count_by, fals
 use Rattle.callers.proofs.Common.{AnswersCall, AnswersReply, Caller, Computed, DecidesAfter, DecidesBefore, ElementCall, Entry, HasDrawn, IsAnswered, IsAt, IsCalled, IsEntered, IsGivenBack, IsLent, IsOwnPart, IsReady, IsRefused, IsReplied, KeyUse, KeyedCall, KnowsBefore, Legal, NotComputed, OnStore, Outcome, Output, Plain, RandomStream, Reading, Reply, Request, Status, World, bytes_of, computed_by, counted, drawn_by, drawn_from, draws_none, entries_of, few, has_vector, is_opaque_key, lease_pair, mark_computed, mark_of, may_change_keys, model_call, model_keyed_call, model_request, names, next_bytes, next_random, own_of, replay, step, takes_vector, use_refusal, wanted_by, with_computed, without_pair, words_used}
 use Rattle.std.specs.FinMap as map
 use Rattle.std.specs.Result.{is_ok}
-use Rattle.store_core.specs.Prelude.{IsAnswered as IsOfElement}
+use Rattle.store_core.specs.Prelude.{IsElementAnswered as IsOfElement}
 use Rattle.key_attributes.specs.declared.KeyId.{KeyId}
 use Rattle.service_calls.specs.declared.call.Call.{Call}
 use Rattle.service_calls.specs.declared.call.Call.TheVariants.{OnStore as OnStoreCall}
 use Rattle.service_calls.specs.declared.store_calls.Keyed.{Keyed}
 use Rattle.service_calls.specs.declared.store_calls.StoreCall.TheVariants.{Compute}
 use Rattle.callers.proofs.ByElement.{element_fits, element_own}
-use Rattle.callers.proofs.CellLists.{first_named, tally-cons, without}
+use Rattle.callers.proofs.HandleLists.{first_named, tally-cons, without}
 use Rattle.callers.proofs.Failing.{AnswersAs, answers_plain, computed_plainly, element_tells, refused_tells, use_plainly}
 use Rattle.callers.proofs.Journeys.{called, called_then}
 use Rattle.callers.proofs.Looking.{AreSpares, put_back}

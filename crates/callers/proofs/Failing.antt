@@ -1,6 +1,6 @@
 -- Results tell of a device that failed exactly where their marks do.
 use Rattle.std.proofs.Common.{Bool, Err, List, MatchOption, MatchResult, None, Ok, Option, Result, Some, ap, bytes_eq, drop, false, if◌then◌else◌, inl, inr, length, nat_lt, refl, subst, sym, take, true, ℕ, ◌-◌, ◌∙◌, ◌≡◌}
-use Rattle.callers.proofs.Common.{Active, After, AnswersReply, Attributes, Authenticating, Ciphering, Computed, Copy, DataCorrupt, DerivationWork, Deriving, ElementCall, Failed, HandleCall, HandleOperation, HardwareFailure, Hashing, Held, InError, Inactive, InvalidHandle, InvalidSignature, IsOfElement, IsRefused, IsUncopied, IsUnmade, Key, KeyUse, KeyedCall, KeylessSetup, NoFault, NotComputed, NotCopied, NotDestroyed, NotMade, OnAead, OnCipher, OnDerivation, OnHash, OnMac, OnStore, Operation, Output, Random, RecordsCopy, RecordsStated, Refused, RefusesPlainly, Reply, Sealing, Service, Status, StorageFailure, Store, Work, aead_part, all_rows, answers_plainly, cipher_part, class_rows, computed_by, computed_unless, created_unless, derivation_key_rows, derivation_part, derived_key_refused, done, exhausted, export_rows, failure_in, failure_marked, failure_told, first_row, given, goes_on, hash_part, key_refused, key_step_rows, mac_part, mark_computed, mark_of, mark_uncopied, mark_undestroyed, mark_unmade, next_derived, on_part, output_key_rows, part_of, recorded_refused, refusal_without_key, refuses_plainly, reply_unless, room_rows, set_up, spoiled, stated_bytes, status_of, status_uncopied, status_undestroyed, status_unmade, stepped_by, tag_bytes, taken_from, there_rows, unless_failed, use_refusal, without}
+use Rattle.callers.proofs.Common.{Active, After, AnswersReply, Attributes, Authenticating, Ciphering, Computed, Copy, DataCorrupt, DerivationWork, Deriving, ElementCall, Failed, HandleCall, HandleOperation, HardwareFailure, Hashing, Held, InError, Inactive, InvalidHandle, InvalidSignature, IsOfElement, IsRefused, IsUncopied, IsUnmade, Key, KeyUse, KeyedCall, KeylessSetup, NoFault, NotComputed, NotCopied, NotDestroyed, NotMade, OnAead, OnCipher, OnDerivation, OnHash, OnMac, OnStore, Operation, Output, Random, RecordsCopy, RecordsStated, Refused, RefusesPlainly, Reply, Sealing, Service, Status, StorageFailure, Store, Work, aead_part, all_rows, answers_plainly, cipher_part, class_rows, computed_by, computed_unless, created_unless, derivation_key_rows, derivation_part, derived_key_refused, done, exhausted, export_rows, failure_in, failure_marked, failure_told, first_row, given, goes_on, hash_part, key_refused, key_step_rows, mac_part, mark_computed, mark_of, mark_uncopied, mark_undestroyed, mark_unmade, next_derived, on_part, output_key_rows, part_of, recorded_refused, refusal_without_key, refuses_plainly, reply_unless, room_rows, set_up, spoiled, stated_bytes, not_computed_status, status_uncopied, status_undestroyed, status_unmade, stepped_by, tag_bytes, taken_from, there_rows, unless_failed, use_refusal, without}
 use Rattle.std.specs.Result.{is_ok}
 use Rattle.std.specs.FinMap as map
 use Rattle.alg_encoding.specs.Encoding.{is_concrete}
@@ -11,7 +11,7 @@ use Rattle.service_calls.specs.declared.handle_calls.KeylessSetup.TheVariants as
 use Rattle.service_calls.specs.declared.store_calls.KeyedCall.TheVariants as call
 use Rattle.alg_encoding.specs.declared.table.Class.TheVariants as class
 use Rattle.store_model.specs.Aeads as aeads
-use Rattle.store_model.specs.Prelude.{bytes_of}
+use Rattle.store_model.specs.Prelude.{bytes_of_key}
 use Rattle.store_model.specs.Ciphers as ciphers
 use Rattle.store_model.specs.Macs as macs
 use Rattle.store_model.proofs.Derivations.{derivation_is_step}
@@ -86,7 +86,7 @@ stated_plainly (Some lease) caller a n m status (inr gone) = let same : InvalidH
 
 copied_plainly : (start : Service) (caller source : ℕ) (stated : Attributes) (m : Store) (status : Status) → RecordsCopy caller source stated m (Err status) → NoFault status
 copied_plainly start caller source stated m status is =
-    subst (λ r. NoFault (created_unless m caller r (bytes_of (map.get m.keys source))).reply.status) (sym is) (answers_plainly (record start { store = m }) caller (OnStore (Copy source stated)))
+    subst (λ r. NoFault (created_unless m caller r (bytes_of_key (map.get m.keys source))).reply.status) (sym is) (answers_plainly (record start { store = m }) caller (OnStore (Copy source stated)))
 
 pub uncopied_tells : (start : Service) (caller source : ℕ) (stated : Attributes) (m : Store) (why : NotCopied) → IsUncopied (RecordsCopy caller source stated) source why m → failure_told (status_uncopied why) ≡ failure_marked (mark_uncopied why)
 uncopied_tells start caller source stated m (uncopied.Unread unread.Missing) is = refl
@@ -117,7 +117,7 @@ text_or_spoiled : (b : Bool) (reply other : Reply) → NoFault reply.status → 
 text_or_spoiled true reply other one two = one
 text_or_spoiled false reply other one two = two
 
-opened_plainly : (alg : ℕ) (key nonce ad cipher tag : List ℕ) → NoFault (aeads.opened alg key nonce ad cipher tag).status
+opened_plainly : (alg : ℕ) (key nonce ad cipher tag : List ℕ) → NoFault (aeads.opened_text alg key nonce ad cipher tag).status
 opened_plainly alg key nonce ad cipher tag =
     let plain : List ℕ = aeads.aead_text alg key nonce cipher in
     text_or_spoiled (bytes_eq tag (aeads.aead_tag alg key nonce ad plain cipher)) (given plain) (spoiled InvalidSignature (length cipher)) refl refl
@@ -165,7 +165,7 @@ is_ok_tells (Err status) e = cc
 
 -- as the result is answered
 abbrev pub AnswersAs : Result ℕ NotComputed → Result Output Status → Type 0
-AnswersAs computed answer = MatchResult computed (λ n. is_ok answer ≡ true) (λ why. answer ≡ Err (status_of why))
+AnswersAs computed answer = MatchResult computed (λ n. is_ok answer ≡ true) (λ why. answer ≡ Err (not_computed_status why))
 
 pub element_tells : (asked : ElementCall) (room : ℕ) (found : Option Key) (result : Result ℕ NotComputed) (answer : Result Output Status) →
     MatchOption (first_row (all_rows asked room found)) (IsOfElement asked result) (λ status. result ≡ Err (Refused status)) → AnswersAs result answer → failure_in answer ≡ failure_marked (mark_computed result)

@@ -4,7 +4,7 @@ use Rattle.callers.proofs.Common.{After, All-push, AnswersReply, AreOperations, 
 use Rattle.std.specs.Option.{IfSome}
 use Rattle.service_calls.specs.declared.steps.Step.{Step}
 use Rattle.callers.specs.declared.handles.Handles.{Handles}
-use Rattle.callers.proofs.CellLists.{busy_put, few, named_alike, once, tally-cons, without}
+use Rattle.callers.proofs.HandleLists.{busy_put, few, named_alike, once, tally-cons, without}
 use Rattle.callers.proofs.Journeys.{called_then, called}
 use Rattle.callers.proofs.Readying.{applied_answered, applied_there, ready, IsKnown, known, outcome_is}
 
@@ -26,13 +26,13 @@ pub same_out : {B : Type 0} {v u : View Entry B} {request : Request} {mark : Fau
 same_out i = λ f. ap (count_by f) i.holding
 
 -- a handle's operation has changed, and the lease that was handed out, if one was, goes back
-module _ {D A C : Type 0} (old settled new : Caller D A C) {operations : List HandleOperation} {handle : ℕ} {operation : HandleOperation} {lease : Option Reading} (change : IsChanged old.handles.cells.items settled.handles.cells.items operations handle operation lease)
-    (all_out : ArePairs settled.pass.me.0.holding (leases_of old.handles.cells.items)) (all_five : length (leases_of old.handles.cells.items) + length settled.spares.items ≡ 5) (five_fit : 5 ≤ vec_capacity settled.spares) where
+module _ {D A C : Type 0} (old settled new : Caller D A C) {operations : List HandleOperation} {handle : ℕ} {operation : HandleOperation} {lease : Option Reading} (change : IsChanged old.handles.list.items settled.handles.list.items operations handle operation lease)
+    (all_out : ArePairs settled.pass.me.0.holding (leases_of old.handles.list.items)) (all_five : length (leases_of old.handles.list.items) + length settled.spares.items ≡ 5) (five_fit : 5 ≤ vec_capacity settled.spares) where
   is_out : (l : Reading) → lease ≡ Some l → 0 < names l.slot (l.creation + 1) settled.pass.me.0.holding
-  is_out l is = let a = named_alike settled.pass.me.0.holding (leases_of old.handles.cells.items) l.slot (l.creation + 1) all_out in let m = change.mine l is in omega arith
+  is_out l is = let a = named_alike settled.pass.me.0.holding (leases_of old.handles.list.items) l.slot (l.creation + 1) all_out in let m = change.mine l is in omega arith
 
   pub may_go_back : IfSome lease (MayGoBack settled)
-  may_go_back = if_some (MayGoBack settled) lease (λ l is. (is_out l is, let m = change.mine l is in let f = names_few l.slot (l.creation + 1) (leases_of old.handles.cells.items) in omega arith))
+  may_go_back = if_some (MayGoBack settled) lease (λ l is. (is_out l is, let m = change.mine l is in let f = names_few l.slot (l.creation + 1) (leases_of old.handles.list.items) in omega arith))
 
   -- what that leaves of the caller
   pub record IsLeft (c : Caller D A C) : Type 0 where
@@ -41,9 +41,9 @@ module _ {D A C : Type 0} (old settled new : Caller D A C) {operations : List Ha
     pub stream : c.stream ≡ settled.stream
     pub handles : c.handles ≡ settled.handles
     pub room : vec_capacity c.spares ≡ vec_capacity settled.spares
-    pub leases : ArePairs c.pass.me.0.holding (leases_of c.handles.cells.items)
+    pub leases : ArePairs c.pass.me.0.holding (leases_of c.handles.list.items)
     pub clear : All IsClear settled.spares.items → All IsClear c.spares.items
-    pub five : length (leases_of c.handles.cells.items) + length c.spares.items ≡ 5
+    pub five : length (leases_of c.handles.list.items) + length c.spares.items ≡ 5
 
   left_by : (o : Option Reading) → lease ≡ o → IsBack o settled new → IsLeft new
   left_by None is same = subst IsLeft (sym same) (record {
@@ -52,7 +52,7 @@ module _ {D A C : Type 0} (old settled new : Caller D A C) {operations : List Ha
     stream = refl;
     handles = refl;
     room = refl;
-    leases = λ f. let a = all_out f in let b = change.leases f in let g = ap (λ x. count_by f (pairs_of x ++ leases_of settled.handles.cells.items)) is in omega arith;
+    leases = λ f. let a = all_out f in let b = change.leases f in let g = ap (λ x. count_by f (pairs_of x ++ leases_of settled.handles.list.items)) is in omega arith;
     clear = λ all. all;
     five = let a = change.fewer in let g = ap (λ x. length (pairs_of x)) is in omega arith;
   })
@@ -64,11 +64,11 @@ module _ {D A C : Type 0} (old settled new : Caller D A C) {operations : List Ha
     room = given.room;
     leases = λ f.
         let a = ap (count_by f) given.later.holding in let b = without f (lease_pair l) settled.pass.me.0.holding (is_out l is) in let c = all_out f in
-        let e = change.leases f in let g = ap (λ x. count_by f (pairs_of x ++ leases_of settled.handles.cells.items)) is in
-        let m = tally-cons f (lease_pair l) (leases_of settled.handles.cells.items) in let h = ap (λ x. count_by f (leases_of x.cells.items)) given.handles in omega arith;
+        let e = change.leases f in let g = ap (λ x. count_by f (pairs_of x ++ leases_of settled.handles.list.items)) is in
+        let m = tally-cons f (lease_pair l) (leases_of settled.handles.list.items) in let h = ap (λ x. count_by f (leases_of x.list.items)) given.handles in omega arith;
     clear = λ all. subst (All IsClear) (sym given.spares) (All-push IsClear settled.spares.items given.spare all given.clear);
     five = let a = ap length given.spares in let b = length-append settled.spares.items (given.spare ∷ []) in let c = change.fewer in let g = ap (λ x. length (pairs_of x)) is in
-        let h = ap (λ x. length (leases_of x.cells.items)) given.handles in omega arith;
+        let h = ap (λ x. length (leases_of x.list.items)) given.handles in omega arith;
   }
 
   pub left : IsBack lease settled new → IsLeft new
@@ -81,12 +81,12 @@ spent_back settled new (Some l) back = back.spent
 -- in a call, so many turns after it began
 module _ {D A C : Type 0} (w : World D A C) {n : ℕ} {old : Caller D A C} (r : IsReady w n old) (settled new : Caller D A C) {request : Request} {mark : FaultMark} {rank : ℕ} {before : List Entry} {e : Entry}
     {t : ℕ} (turned : IsCalled old.pass.me.0 settled.pass.me.0 t request mark rank before e) (held : ArePairs settled.pass.me.0.holding old.pass.me.0.holding) (spares : settled.spares ≡ old.spares)
-    {handle : ℕ} (after : After Held) {lease : Option Reading} (change : IsChanged old.handles.cells.items settled.handles.cells.items r.operations handle after.operation lease) where
-  leases_are : ArePairs settled.pass.me.0.holding (leases_of old.handles.cells.items)
+    {handle : ℕ} (after : After Held) {lease : Option Reading} (change : IsChanged old.handles.list.items settled.handles.list.items r.operations handle after.operation lease) where
+  leases_are : ArePairs settled.pass.me.0.holding (leases_of old.handles.list.items)
   leases_are f = held f ∙ r.leases f
 
-  five : length (leases_of old.handles.cells.items) + length settled.spares.items ≡ 5
-  five = subst (λ x. length (leases_of old.handles.cells.items) + length x.items ≡ 5) (sym spares) r.five
+  five : length (leases_of old.handles.list.items) + length settled.spares.items ≡ 5
+  five = subst (λ x. length (leases_of old.handles.list.items) + length x.items ≡ 5) (sym spares) r.five
 
   room : 5 ≤ vec_capacity settled.spares
   room = subst (λ x. 5 ≤ vec_capacity x) (sym spares) r.room
@@ -121,7 +121,7 @@ module _ {D A C : Type 0} (w : World D A C) {n : ℕ} {old : Caller D A C} (r : 
           let l = left old settled new change leases_are five room back in let place = ap (λ (s : RandomStream). s.place) (l.stream ∙ stream) in
           ready w n old new r (spent_by lease) request mark rank before e made (with_operation_at r.operations handle after.operation) 0 at legal (record {
             number = l.number ∙ number;
-            stand = subst (λ x. AreOperations x.cells.items (with_operation_at r.operations handle after.operation)) (sym l.handles) change.stand;
+            stand = subst (λ x. AreOperations x.list.items (with_operation_at r.operations handle after.operation)) (sym l.handles) change.stand;
             own = applied_there w n old new r (spent_by lease) request mark rank before e made first last after applies place;
             leases = l.leases;
             clear = l.clear (subst (λ x. All IsClear x.items) (sym spares) r.clear);
@@ -140,18 +140,18 @@ module _ {D A C : Type 0} (w : World D A C) {n : ℕ} {old : Caller D A C} (r : 
 
 -- WHERE IT ASKED FOR ITS TURN FIRST
 
--- the cells that the caller had stand as they stood before it asked
-pub still_stand : {D A C : Type 0} {old asking : Caller D A C} {operations : List HandleOperation} → SameButPass old asking → AreOperations old.handles.cells.items operations → AreOperations asking.handles.cells.items operations
-still_stand {operations = operations} same stand = subst (λ h. AreOperations h.cells.items operations) (sym same.handles) stand
+-- the handles that the caller had stand as they stood before it asked
+pub still_stand : {D A C : Type 0} {old asking : Caller D A C} {operations : List HandleOperation} → SameButPass old asking → AreOperations old.handles.list.items operations → AreOperations asking.handles.list.items operations
+still_stand {operations = operations} same stand = subst (λ h. AreOperations h.list.items operations) (sym same.handles) stand
 
 module _ {D A C : Type 0} (w : World D A C) (old asking : Caller D A C) (r : IsReady w 4 old) {request : Request} {rank handle : ℕ} {alive : Bool}
     (ranked : IsRanked old.pass.me.0 asking.pass.me.0 request Plain rank old.pass.me.0.holding (KnowsBefore w (λ service. alive ≡ is_alive service.store (key_of_operation (operation_of service old.number handle)))))
-    (same : SameButPass old asking) (handles : Handles) (stream : RandomStream) (after : After Held) {lease : Option Reading} (changed : IsChanged asking.handles.cells.items handles.cells.items r.operations handle after.operation lease) where
+    (same : SameButPass old asking) (handles : Handles) (stream : RandomStream) (after : After Held) {lease : Option Reading} (changed : IsChanged asking.handles.list.items handles.list.items r.operations handle after.operation lease) where
   abbrev settled : Caller D A C
   settled = record asking { handles = handles; stream = stream }
 
-  abbrev change : IsChanged old.handles.cells.items handles.cells.items r.operations handle after.operation lease
-  change = subst (λ h. IsChanged h.cells.items handles.cells.items r.operations handle after.operation lease) same.handles changed
+  abbrev change : IsChanged old.handles.list.items handles.list.items r.operations handle after.operation lease
+  change = subst (λ h. IsChanged h.list.items handles.list.items r.operations handle after.operation lease) same.handles changed
 
   pub asked_back : IfSome lease (MayGoBack settled)
   asked_back = goes_back w r settled settled (called ranked.after.entered) (same_out ranked.after.entered) same.spares after change
@@ -189,7 +189,7 @@ by_finding false P found other = other refl
 
 module _ {D A C : Type 0} (w : World D A C) {n : ℕ} {old : Caller D A C} (r : IsReady w n old) (settled new : Caller D A C) {request : Request} {rank : ℕ} {before : List Entry} {e : Entry}
     (i : IsEntered old.pass.me.0 settled.pass.me.0 request Plain rank old.pass.me.0.holding before e) (spares : settled.spares ≡ old.spares)
-    {handle : ℕ} {lease : Option Reading} (change : IsChanged old.handles.cells.items settled.handles.cells.items r.operations handle Inactive lease) (back : IsBack lease settled new)
+    {handle : ℕ} {lease : Option Reading} (change : IsChanged old.handles.list.items settled.handles.list.items r.operations handle Inactive lease) (back : IsBack lease settled new)
     (first : 1 ≤ handle) (last : handle ≤ 4) (asks : request ≡ OnHandle handle Abort) where
   aborts : KnowsBefore w (λ service. outcome_of service e ≡ applied service old.number handle (ends done)) before e
   aborts start is tells = outcome_is (replay start before) e old.number (OnHandle handle Abort) Plain (i.by ∙ r.number) (i.call_is ∙ asks) i.mark_is
@@ -204,9 +204,9 @@ module _ {D A C : Type 0} (w : World D A C) {n : ℕ} {old : Caller D A C} (r : 
 
 -- by whether the operation was inactive, and the abort has counted
 pub aborted : {D A C : Type 0} (w : World D A C) {old : Caller D A C} (r : IsReady w 0 old) (settled new : Caller D A C) {request : Request} {rank : ℕ} {before : List Entry} {e : Entry} {handle : ℕ} {lease : Option Reading} →
-    ((operations : List HandleOperation) → AreOperations old.handles.cells.items operations → is_inactive (operation_at operations handle) ≡ true → IsReady w 4 old) →
+    ((operations : List HandleOperation) → AreOperations old.handles.list.items operations → is_inactive (operation_at operations handle) ≡ true → IsReady w 4 old) →
     IsEntered old.pass.me.0 settled.pass.me.0 request Plain rank old.pass.me.0.holding before e → settled.spares ≡ old.spares →
-    ((operations : List HandleOperation) → AreOperations old.handles.cells.items operations → IsChanged old.handles.cells.items settled.handles.cells.items operations handle Inactive lease) → IsBack lease settled new →
+    ((operations : List HandleOperation) → AreOperations old.handles.list.items operations → IsChanged old.handles.list.items settled.handles.list.items operations handle Inactive lease) → IsBack lease settled new →
     1 ≤ handle → handle ≤ 4 → request ≡ OnHandle handle Abort → IsAt w new.pass → Legal w (entries_of new.pass.me.0.seen) → settled.number ≡ old.number → settled.stream ≡ old.stream → settled.spent ≡ old.spent → IsReady w 0 new
 aborted w r settled new {handle = handle} counted i spares changed back first last asks =
     by_finding (is_inactive (operation_at r.operations handle)) _

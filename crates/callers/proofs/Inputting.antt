@@ -6,7 +6,7 @@ use Rattle.service_calls.specs.declared.output.Output.TheVariants as output
 use Rattle.store_model.specs.KeyUse as held
 use Rattle.operation_handles.proofs.ServedInputs.{inputs}
 use Rattle.callers.proofs.Beginning.{IsBegun, begun_answered, changed_ready, kept_ready}
-use Rattle.callers.proofs.CellLists.{busy_put, once}
+use Rattle.callers.proofs.HandleLists.{busy_put, once}
 use Rattle.callers.proofs.Failing.{refused_tells, use_plainly}
 use Rattle.callers.proofs.Journeys.{called}
 use Rattle.callers.proofs.Looking.{AreSpares}
@@ -38,7 +38,7 @@ module _ (service : Service) (caller handle step id : ℕ) (wanted : KeyUse) (ta
       handle_step service caller handle (InputKey step id) ≡ applied service caller handle (taken_by lease w)
   input_lent lease w derives (k, found, free, is) =
       inputs.taken service caller handle step id wanted w takes derives (ap (use_refusal wanted) found ∙ free)
-      ∙ ((λ i. applied service caller handle (goes_on (record { key = creation_of id (found i); work = Deriving (with_key w (held.bytes_of (found i))) }) done))
+      ∙ ((λ i. applied service caller handle (goes_on (record { key = creation_of id (found i); work = Deriving (with_key w (held.bytes_of_key (found i))) }) done))
       ∙ (λ i. applied service caller handle (goes_on (record { key = Some (record { id = id; number = sym is.number i }); work = Deriving (with_key w (sym is.bytes i)) }) done)))
 
 pub derives_busy : (o : HandleOperation) (w : DerivationWork) → part_of derivation_part o ≡ Active w → is_inactive o ≡ false
@@ -86,7 +86,7 @@ module _ {D A C : Type 0} (w : World D A C) (old new : Caller D A C) (r : IsRead
         outcome_is service e old.number (OnHandle handle (InputKey step id)) Plain (i.by ∙ r.number) (i.call_is ∙ asks) (i.mark_is ∙ plain)
         ∙ input_lent service old.number handle step id wanted (takes_there start is tells) lease takes.w (ap (part_of derivation_part) (mine start is tells) ∙ takes.derives) lent
 
-    pub given_ready : HoldsLease old.handles.cells.items new.handles.cells.items r.operations handle given_key.operation lease → own ≡ lease_pair lease ∷ old.pass.me.0.holding → new.number ≡ old.number → new.stream ≡ old.stream →
+    pub given_ready : HoldsLease old.handles.list.items new.handles.list.items r.operations handle given_key.operation lease → own ≡ lease_pair lease ∷ old.pass.me.0.holding → new.number ≡ old.number → new.stream ≡ old.stream →
         new.spent ≡ old.spent → AreSpares 1 old.spares new.spares → IsAt w new.pass → Legal w (entries_of new.pass.me.0.seen) → IsReady w 0 new
     given_ready kept held number stream spent spares = kept_ready w old new r i first last given_key gives_key (begun given_key gives_key refl refl number stream spent spares) kept held (let z = r.spent in omega arith)
 
@@ -101,7 +101,7 @@ module _ {D A C : Type 0} (w : World D A C) (old new : Caller D A C) (r : IsRead
         outcome_is service e old.number (OnHandle handle (InputKey step id)) (mark_of why) (i.by ∙ r.number) (i.call_is ∙ asks) (i.mark_is ∙ marked)
         ∙ input_refused service old.number handle step id wanted (takes_there start is tells) why (decided_after w (IsRefused (use_refusal wanted) id why) before e unchanging decided start is tells)
 
-    pub failed_ready : IsChanged old.handles.cells.items new.handles.cells.items r.operations handle InError None → own ≡ old.pass.me.0.holding → new.number ≡ old.number → new.stream ≡ old.stream → new.spent ≡ old.spent →
+    pub failed_ready : IsChanged old.handles.list.items new.handles.list.items r.operations handle InError None → own ≡ old.pass.me.0.holding → new.number ≡ old.number → new.stream ≡ old.stream → new.spent ≡ old.spent →
         AreSpares 0 old.spares new.spares → IsAt w new.pass → Legal w (entries_of new.pass.me.0.seen) → IsReady w 0 new
     failed_ready change held number stream spent spares = changed_ready w old new r i first last (fails why) refuses_key (begun (fails why) refuses_key refl refl number stream spent spares) change held (let z = r.spent in omega arith)
 

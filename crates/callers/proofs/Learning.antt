@@ -44,7 +44,7 @@ module _ {D A C : Type 0} (w : World D A C) (old new : Caller D A C) (other : Vi
         legal = legal_still legal;
         sound = r.sound;
         operations = r.operations;
-        stand = subst (λ h. AreOperations h.cells.items r.operations) (sym same.handles) r.stand;
+        stand = subst (λ h. AreOperations h.list.items r.operations) (sym same.handles) r.stand;
         own = λ start starts tells.
             let here : IsToldTo w start (entries_of v.seen) = told_front (w.disk.contents w.opened.file.value.cells.disk) start (entries_of u.seen) (entries_of v.seen) whole tells in
             let mine : calls_by caller_of u.number (entries_of u.seen) ≡ calls_by caller_of v.number (entries_of v.seen) =
@@ -56,9 +56,9 @@ module _ {D A C : Type 0} (w : World D A C) (old new : Caller D A C) (other : Vi
             let place : new.stream.place ≡ old.stream.place = ap (λ s. s.place) same.stream in
             subst (λ p. IsOwnPart r.operations p (own_of (replay start (entries_of u.seen)) new.number)) (sym place)
             (subst (IsOwnPart r.operations old.stream.place) (sym own) (r.own start starts here));
-        leases = λ f. ap (count_by f) holding ∙ (r.leases f ∙ ap (λ h. count_by f (leases_of h.cells.items)) (sym same.handles));
+        leases = λ f. ap (count_by f) holding ∙ (r.leases f ∙ ap (λ h. count_by f (leases_of h.list.items)) (sym same.handles));
         clear = subst (λ v. All IsClear v.items) (sym same.spares) r.clear;
-        five = let a = ap (λ h. length (leases_of h.cells.items)) same.handles in let b = ap (λ s. length s.items) same.spares in let c = r.five in omega arith;
+        five = let a = ap (λ h. length (leases_of h.list.items)) same.handles in let b = ap (λ s. length s.items) same.spares in let c = r.five in omega arith;
         room = let a = ap vec_capacity same.spares in let b = r.room in omega arith;
         seed = ap (λ s. s.seed) same.stream ∙ r.seed;
         stream_of = ap (λ s. s.caller) same.stream ∙ (r.stream_of ∙ sym same.number);

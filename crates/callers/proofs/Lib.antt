@@ -1,6 +1,6 @@
 mod Common
 pub mod Journeys
-pub mod CellLists
+pub mod HandleLists
 pub mod Owned
 pub mod Readying
 pub mod Failing

@@ -1,6 +1,6 @@
 -- A caller after a call that creates a key of derived bytes.
 use Rattle.std.proofs.Common.{All, Bool, Err, List, None, Ok, Option, Result, Some, [], ap, arith, count_by, false, get_or, if◌then◌else◌, inr, length, min, nat_lt, not, refl, subst, sym, take, take_all, true, vec_capacity, ℕ, ◌&&◌, ◌+◌, ◌-◌, ◌<◌, ◌==◌, ◌∙◌, ◌∷◌, ◌≡◌, ◌≤◌}
-use Rattle.callers.proofs.Common.{Active, AreOperations, Attributes, Caller, Cell, CreatesKey, DecidesBefore, DerivationWork, Deriving, HandleOperation, InError, Inactive, InsufficientData, IsAnswered, IsAt, IsBack, IsCalled, IsChanged, IsClear, IsCreated, IsDerivedKey, IsMade, IsOperation, IsOwn, IsOwnPart, IsReady, IsReplied, IsSound, IsUnmade, KeyId, KnowsBefore, LeavesAllKeys, Legal, NotMade, OnHandle, Operation, OutputKey, Pairs, Plain, RandomStream, Reading, RecordsStated, Reply, Request, Served, Service, Status, Store, Success, TellsFailure, World, applied, created, derivation_part, derived_key_refused, draws_none, entries_of, exhausted, fails, first_row, first_row-back, goes_on, has_live_key, is_active, is_alive, is_destruction, key_of_operation, leases_of, mark_unmade, next_derived, on_part, operation_at, operation_of, outcome_of, output_key_refusal, output_key_rows, outputs, own_of, part_of, plain_step, refused_by, replay, serve, start_of, stated_bytes, status_unmade, taken_from, unless_failed, with_drawn, with_operation, with_operation_at, without}
+use Rattle.callers.proofs.Common.{Active, AreOperations, Attributes, Caller, OperationHandle, CreatesKey, DecidesBefore, DerivationWork, Deriving, HandleOperation, InError, Inactive, InsufficientData, IsAnswered, IsAt, IsBack, IsCalled, IsChanged, IsClear, IsCreated, IsDerivedKey, IsMade, IsOperation, IsOwn, IsOwnPart, IsReady, IsReplied, IsSound, IsUnmade, KeyId, KnowsBefore, LeavesAllKeys, Legal, NotMade, OnHandle, Operation, OutputKey, Pairs, Plain, RandomStream, Reading, RecordsStated, Reply, Request, Served, Service, Status, Store, Success, TellsFailure, World, applied, created, derivation_part, derived_key_refused, draws_none, entries_of, exhausted, fails, first_row, first_row-back, goes_on, has_live_key, is_active, is_alive, is_destruction, key_of_operation, leases_of, mark_unmade, next_derived, on_part, operation_at, operation_of, outcome_of, output_key_refusal, output_key_rows, outputs, own_of, part_of, plain_step, refused_by, replay, serve, start_of, stated_bytes, status_unmade, taken_from, unless_failed, with_drawn, with_operation, with_operation_at, without}
 use Rattle.std.proofs.lemmas.List.{get_or-set_same, length-take-le, set-set}
 use Rattle.callers.specs.HandleCalls.{FailsDerivation, without_bytes}
 use Rattle.service_calls.specs.declared.output.Output.TheVariants as output
@@ -8,7 +8,7 @@ use Rattle.store_model.specs.Prelude.{given as given_bytes}
 use Rattle.derivation_states.specs.KeySteps as alone
 use Rattle.callers.proofs.Asking.{leased_key, unleased_key}
 use Rattle.callers.proofs.Beginning.{at_handle}
-use Rattle.callers.proofs.CellLists.{busy_put, cell_at, named_alike, names_is, names_lease, once, tally-cons}
+use Rattle.callers.proofs.HandleLists.{busy_put, cell_at, named_alike, names_is, names_lease, once, tally-cons}
 use Rattle.callers.proofs.Deriving.{IsLeaseOf, derived_leaves, derived_replies, made_owns, underived_key}
 use Rattle.callers.proofs.Handling.{handled_answered, handled_ready, made as turned_back}
 use Rattle.callers.proofs.Inputting.{derives_busy, refused_drawn}
@@ -18,8 +18,8 @@ use Rattle.callers.proofs.Readying.{IsKnown, answered, known, outcome_is, own_th
 use Rattle.callers.proofs.SettingUp.{undrawn_own}
 use Rattle.callers.proofs.Storing.{decided_known}
 
--- the lease of a cell is of its operation's key
-lease_of : (cell : Cell) (operation : HandleOperation) → IsOperation cell operation → (is_active operation ≡ false → cell.lease ≡ None) → IsLeaseOf cell.lease (key_of_operation operation)
+-- the lease of a handle is of its operation's key
+lease_of : (cell : OperationHandle) (operation : HandleOperation) → IsOperation cell operation → (is_active operation ≡ false → cell.lease ≡ None) → IsLeaseOf cell.lease (key_of_operation operation)
 lease_of cell operation stands over = by cell.lease refl
   where
     by : (l : Option Reading) → cell.lease ≡ l → IsLeaseOf l (key_of_operation operation)
@@ -27,7 +27,7 @@ lease_of cell operation stands over = by cell.lease refl
     by (Some l) some = leased_key cell operation l stands over some
 
 -- the operation of a handle changes twice
-pub changed_twice : (old mid new : List Cell) (operations : List HandleOperation) (handle : ℕ) (first second : HandleOperation) (lease : Option Reading) → IsChanged old mid operations handle first None →
+pub changed_twice : (old mid new : List OperationHandle) (operations : List HandleOperation) (handle : ℕ) (first second : HandleOperation) (lease : Option Reading) → IsChanged old mid operations handle first None →
     IsChanged mid new (with_operation_at operations handle first) handle second lease → IsChanged old new operations handle second lease
 changed_twice old mid new operations handle first second lease one two = record {
   stand = subst (AreOperations new) (set-set operations (handle - 1) first second) two.stand;
@@ -52,8 +52,8 @@ given_front w a count out d size few =
     let whole : length derived ≤ count = omega (arith, d.size, size) in
     d.bytes ∙ take_all count derived whole
 
--- the lease of a handle's cell is out, beside whatever else is
-lease_is_out : (own : Pairs) (cells : List Cell) (handle : ℕ) (cell : Cell) (lease : Option Reading) → handle - 1 < length cells → cell ≡ get_or cells (handle - 1) cell → ((f : ℕ × ℕ → Bool) → count_by f (leases_of cells) ≤ count_by f own) →
+-- the lease of a handle is out, beside whatever else is
+lease_is_out : (own : Pairs) (cells : List OperationHandle) (handle : ℕ) (cell : OperationHandle) (lease : Option Reading) → handle - 1 < length cells → cell ≡ get_or cells (handle - 1) cell → ((f : ℕ × ℕ → Bool) → count_by f (leases_of cells) ≤ count_by f own) →
     lease ≡ cell.lease → IsOwn lease own
 lease_is_out own cells handle cell None inside at more is = tt
 lease_is_out own cells handle cell (Some l) inside at more is =
@@ -61,24 +61,24 @@ lease_is_out own cells handle cell (Some l) inside at more is =
     let d = more (λ p. p.0 == l.slot && p.1 == (l.creation + 1)) in omega arith
 
 -- what is known of a handle's derivation once a key's bytes are taken from it, and of the lease of its own key
-pub record IsTaken {D A C : Type 0} {w : World D A C} (old : Caller D A C) (r : IsReady w 4 old) (handle : ℕ) (a : Attributes) (cells : List Cell) (lease : Option Reading) (bytes : List ℕ) : Type 0 where
+pub record IsTaken {D A C : Type 0} {w : World D A C} (old : Caller D A C) (r : IsReady w 4 old) (handle : ℕ) (a : Attributes) (cells : List OperationHandle) (lease : Option Reading) (bytes : List ℕ) : Type 0 where
   pub work : DerivationWork
   pub derives : part_of derivation_part (operation_at r.operations handle) ≡ Active work
   pub passes : output_key_refusal (part_of derivation_part (operation_at r.operations handle)) a ≡ None
   pub of : IsLeaseOf lease (key_of_operation (operation_at r.operations handle))
   pub short : length bytes ≡ min (stated_bytes a) 1025
   pub front : stated_bytes a ≤ 1024 → bytes ≡ next_derived work (stated_bytes a)
-  pub change : IsChanged old.handles.cells.items cells r.operations handle (without_bytes (operation_at r.operations handle) work (stated_bytes a)) None
+  pub change : IsChanged old.handles.list.items cells r.operations handle (without_bytes (operation_at r.operations handle) work (stated_bytes a)) None
 
-module _ {D A C : Type 0} {w : World D A C} (old : Caller D A C) (r : IsReady w 4 old) (handle : ℕ) (a : Attributes) (cells : List Cell) (lease : Option Reading) (first : 1 ≤ handle) (last : handle ≤ 4)
-    (held : (c : Cell) → c ≡ get_or cells (handle - 1) c → lease ≡ c.lease) where
+module _ {D A C : Type 0} {w : World D A C} (old : Caller D A C) (r : IsReady w 4 old) (handle : ℕ) (a : Attributes) (cells : List OperationHandle) (lease : Option Reading) (first : 1 ≤ handle) (last : handle ≤ 4)
+    (held : (c : OperationHandle) → c ≡ get_or cells (handle - 1) c → lease ≡ c.lease) where
   pub taken : (count : ℕ) (out : List ℕ) →
-      ((c : Cell) (o : HandleOperation) → c ≡ get_or old.handles.cells.items (handle - 1) c → IsOperation c o → output_key_refusal (part_of derivation_part o) a ≡ None) →
-      ((operations : List HandleOperation) (work : DerivationWork) → AreOperations old.handles.cells.items operations → part_of derivation_part (operation_at operations handle) ≡ Active work →
-      IsChanged old.handles.cells.items cells operations handle (without_bytes (operation_at operations handle) work (stated_bytes a)) None × IsDerivedKey work a count out) →
+      ((c : OperationHandle) (o : HandleOperation) → c ≡ get_or old.handles.list.items (handle - 1) c → IsOperation c o → output_key_refusal (part_of derivation_part o) a ≡ None) →
+      ((operations : List HandleOperation) (work : DerivationWork) → AreOperations old.handles.list.items operations → part_of derivation_part (operation_at operations handle) ≡ Active work →
+      IsChanged old.handles.list.items cells operations handle (without_bytes (operation_at operations handle) work (stated_bytes a)) None × IsDerivedKey work a count out) →
       count ≡ min (stated_bytes a) 1025 → IsTaken old r handle a cells lease (take count out)
   taken count out due gives size =
-      let passes = at_handle (λ o. output_key_refusal (part_of derivation_part o) a ≡ None) old.handles.cells.items r.operations handle r.stand first last due in
+      let passes = at_handle (λ o. output_key_refusal (part_of derivation_part o) a ≡ None) old.handles.list.items r.operations handle r.stand first last due in
       let work = due_work (part_of derivation_part (operation_at r.operations handle)) a passes in let given = gives r.operations work.0 r.stand work.1 in
       let left : HandleOperation = without_bytes (operation_at r.operations handle) work.0 (stated_bytes a) in
       let cell = cell_at cells (handle - 1) (let z = given.0.stand.cells_are in omega arith) in let inside : handle - 1 < 4 = omega (arith, first, last) in
@@ -93,11 +93,11 @@ module _ {D A C : Type 0} {w : World D A C} (old : Caller D A C) (r : IsReady w 
       }
 
   -- and the operation then fails
-  pub failed : {bytes : List ℕ} (t : IsTaken old r handle a cells lease bytes) (last_cells : List Cell) (back : Option Reading) → FailsDerivation cells last_cells handle back →
-      IsChanged old.handles.cells.items last_cells r.operations handle InError back
+  pub failed : {bytes : List ℕ} (t : IsTaken old r handle a cells lease bytes) (last_cells : List OperationHandle) (back : Option Reading) → FailsDerivation cells last_cells handle back →
+      IsChanged old.handles.list.items last_cells r.operations handle InError back
   failed t last_cells back fails =
       let left : HandleOperation = without_bytes (operation_at r.operations handle) t.work (stated_bytes a) in
-      changed_twice old.handles.cells.items cells last_cells r.operations handle left InError back t.change
+      changed_twice old.handles.list.items cells last_cells r.operations handle left InError back t.change
       (fails (with_operation_at r.operations handle left) (without t.work (stated_bytes a)) t.change.stand (ap (part_of derivation_part) (get_or-set_same r.operations (handle - 1) left Inactive (let z = r.stand.count in omega (arith, first, last)))))
 
   -- the lease is out, beside what was taken before
@@ -108,7 +108,7 @@ module _ {D A C : Type 0} {w : World D A C} (old : Caller D A C) (r : IsReady w 
       (λ f. let x = ap (count_by f) more in let m = tally-cons f pair old.pass.me.0.holding in let y = r.leases f in let z = t.change.leases f in omega arith) (held cell.0 cell.1)
 
 module _ {D A C : Type 0} (w : World D A C) (old : Caller D A C) (r : IsReady w 4 old) (request : Request) (handle : ℕ) (a : Attributes) (asks : request ≡ OnHandle handle (OutputKey a)) (first : 1 ≤ handle) (last : handle ≤ 4)
-    (cells : List Cell) (lease : Option Reading) (bytes : List ℕ) (given : IsTaken old r handle a cells lease bytes) where
+    (cells : List OperationHandle) (lease : Option Reading) (bytes : List ℕ) (given : IsTaken old r handle a cells lease bytes) where
   abbrev after : HandleOperation
   after = without_bytes (operation_at r.operations handle) given.work (stated_bytes a)
 
@@ -145,7 +145,7 @@ module _ {D A C : Type 0} (w : World D A C) (old : Caller D A C) (r : IsReady w 
       made : KnowsBefore w (λ service. IsMade Records old.number id.0 service.store) c.before c.entry
       made = decided_known w (IsMade Records old.number id.0) c.before c.entry c.decided
 
-      pub output_ready : IsChanged old.handles.cells.items new.handles.cells.items r.operations handle after None → new.number ≡ old.number → new.stream ≡ old.stream → new.spares ≡ old.spares → new.spent ≡ old.spent →
+      pub output_ready : IsChanged old.handles.list.items new.handles.list.items r.operations handle after None → new.number ≡ old.number → new.stream ≡ old.stream → new.spares ≡ old.spares → new.spent ≡ old.spent →
           IsAt w new.pass → Legal w (entries_of new.pass.me.0.seen) → IsReady w 0 new
       output_ready change number stream spares spent at legal =
           let left = c.called.left in let sp = spent in
@@ -186,7 +186,7 @@ module _ {D A C : Type 0} (w : World D A C) (old : Caller D A C) (r : IsReady w 
 
     -- NONE IS MADE: the derivation is in error, and its lease goes back
     module _ (settled : Caller D A C) (why : NotMade) (c : IsCreated old.pass.me.0 settled.pass.me.0 request (mark_unmade why) rank (DecidesBefore w (IsUnmade Records why))) (back_lease : Option Reading)
-        (spares : settled.spares ≡ old.spares) (change : IsChanged old.handles.cells.items settled.handles.cells.items r.operations handle InError back_lease) (back : IsBack back_lease settled new) where
+        (spares : settled.spares ≡ old.spares) (change : IsChanged old.handles.list.items settled.handles.list.items r.operations handle InError back_lease) (back : IsBack back_lease settled new) where
       fails_there : (turns : ℕ) (made : IsCalled old.pass.me.0 new.pass.me.0 turns request (mark_unmade why) rank c.before c.entry) →
           KnowsBefore w (λ service. outcome_of service c.entry ≡ applied service old.number handle (fails (status_unmade why))) c.before c.entry
       fails_there turns made start is tells =
@@ -210,7 +210,7 @@ module _ {D A C : Type 0} (w : World D A C) (old : Caller D A C) (r : IsReady w 
 -- A KEY THAT THE DERIVATION REFUSES
 
 pub output_draws_none : (alive : Bool) (o : HandleOperation) (a : Attributes) → (derived_key_refused alive o a).drawn ≡ 0
-output_draws_none alive o a = refused_drawn None (part_of derivation_part o) alive (λ w. alone.derived_key w a) o (λ w. by w (first_row (output_key_rows w a)))
+output_draws_none alive o a = refused_drawn None (part_of derivation_part o) alive (λ w. alone.derived_key_bytes w a) o (λ w. by w (first_row (output_key_rows w a)))
   where
     taken : (short : Bool) (w : DerivationWork) (n : ℕ) (reply : Reply) → (if short then exhausted w else goes_on (without w n) reply).drawn ≡ 0
     taken true w n reply = refl
@@ -231,7 +231,7 @@ undue {old = old} service handle a first last refuses k lives =
 refuses_row : (w : DerivationWork) (a : Attributes) (status : Status) → first_row (output_key_rows w a) ≡ Some status → status ≡ Success → ⊥
 refuses_row w a = refused_by (λ status. status ≡ Success → ⊥) (output_key_rows w a) (λ on is. cc, (λ on is. cc, (λ on is. cc, (λ on is. cc, tt))))
 
-undue_fails : (own : Operation DerivationWork) (o : HandleOperation) (alive : Bool) (a : Attributes) → (output_key_refusal own a ≡ None → ⊥) → (on_part o Deriving own alive (λ w. alone.derived_key w a)).reply.status ≡ Success → ⊥
+undue_fails : (own : Operation DerivationWork) (o : HandleOperation) (alive : Bool) (a : Attributes) → (output_key_refusal own a ≡ None → ⊥) → (on_part o Deriving own alive (λ w. alone.derived_key_bytes w a)).reply.status ≡ Success → ⊥
 undue_fails Inactive o alive a refuses is = cc
 undue_fails InError o alive a refuses is = cc
 undue_fails (Active w) o false a refuses is = cc

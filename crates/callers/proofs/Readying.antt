@@ -69,11 +69,11 @@ module _ {D A C : Type 0} (w : World D A C) where
     -- what a call changes of a caller beside its pass
     pub record IsMoved (changed : List HandleOperation) (slack : ℕ) : Type 0 where
       pub number : new.number ≡ old.number
-      pub stand : AreOperations new.handles.cells.items changed
+      pub stand : AreOperations new.handles.list.items changed
       pub own : Knows (λ service. IsOwnPart changed new.stream.place (own_of (outcome_of service e).service old.number)) before e
-      pub leases : ArePairs new.pass.me.0.holding (leases_of new.handles.cells.items)
+      pub leases : ArePairs new.pass.me.0.holding (leases_of new.handles.list.items)
       pub clear : All IsClear new.spares.items
-      pub five : length (leases_of new.handles.cells.items) + length new.spares.items ≡ 5
+      pub five : length (leases_of new.handles.list.items) + length new.spares.items ≡ 5
       pub room : 5 ≤ vec_capacity new.spares
       pub seed : new.stream.seed ≡ old.stream.seed
       pub stream_of : new.stream.caller ≡ old.stream.caller

@@ -1,6 +1,6 @@
 -- A caller that ends, handle by handle.
 use Rattle.std.proofs.Common.{All, List, None, Option, Some, [], ap, arith, get_or, length, refl, set, subst, suc, sym, zero, ℕ, ◌++◌, ◌+◌, ◌-◌, ◌<◌, ◌∙◌, ◌∷◌, ◌≡◌, ◌≤◌}
-use Rattle.callers.proofs.Common.{All-head, All-tail, AreIdle, AreOperations, ArePairs, Caller, Cell, Entry, Inactive, IsAt, IsBack, IsChanged, IsOperation, IsReady, IsRetired, IsRetiring, Legal, MakesNoCall, MayGoBack, Pairs, Reading, View, World, begins_itself, entries_of, is_active, leases_of, operation_at, pairs_of, with_operation_at}
+use Rattle.callers.proofs.Common.{All-head, All-tail, AreIdle, AreOperations, ArePairs, Caller, OperationHandle, Entry, Inactive, IsAt, IsBack, IsChanged, IsOperation, IsReady, IsRetired, IsRetiring, Legal, MakesNoCall, MayGoBack, Pairs, Reading, View, World, begins_itself, entries_of, is_active, leases_of, operation_at, pairs_of, with_operation_at}
 use Rattle.std.specs.Option.{IfSome}
 use Rattle.callers.specs.declared.handles.Handles.{Handles}
 use mathlib.Core.Logic.{dite}
@@ -14,13 +14,13 @@ no_pair_left : (own : Pairs) → ArePairs own [] → own ≡ []
 no_pair_left [] are = refl
 no_pair_left (p ∷ ps) are = let l = length_alike (p ∷ ps) [] are in absurd (omega arith)
 
--- cells without a lease
-pub no_lease_left : (cells : List Cell) → All (λ (c : Cell). c.lease ≡ None) cells → leases_of cells ≡ []
+-- handles without a lease
+pub no_lease_left : (cells : List OperationHandle) → All (λ (c : OperationHandle). c.lease ≡ None) cells → leases_of cells ≡ []
 no_lease_left [] none = refl
 no_lease_left (c ∷ cs) none =
-    ap (λ o. pairs_of o ++ leases_of cs) (All-head (λ (x : Cell). x.lease ≡ None) c cs none) ∙ no_lease_left cs (All-tail (λ (x : Cell). x.lease ≡ None) c cs none)
+    ap (λ o. pairs_of o ++ leases_of cs) (All-head (λ (x : OperationHandle). x.lease ≡ None) c cs none) ∙ no_lease_left cs (All-tail (λ (x : OperationHandle). x.lease ≡ None) c cs none)
 
-pub any_default : (cells : List Cell) (i : ℕ) (c d : Cell) → i < length cells → get_or cells i c ≡ get_or cells i d
+pub any_default : (cells : List OperationHandle) (i : ℕ) (c d : OperationHandle) → i < length cells → get_or cells i c ≡ get_or cells i d
 any_default [] i c d lt = absurd (omega arith)
 any_default (x ∷ xs) zero c d lt = refl
 any_default (x ∷ xs) (suc i) c d lt = any_default xs i c d (omega arith)
@@ -54,23 +54,23 @@ module _ {D A C : Type 0} (w : World D A C) where
 
   -- and at its end everything
   module _ (c : Caller D A C) (r : IsRetiring w 4 c) where
-    each_idle : AreIdle c.handles.cells.items
+    each_idle : AreIdle c.handles.list.items
     each_idle = λ i d lt.
-        let cells = c.handles.cells.items in let cell = get_or cells i d in let few : i < 4 = let n = r.stand.cells_are in omega arith in
+        let cells = c.handles.list.items in let cell = get_or cells i d in let few : i < 4 = let n = r.stand.cells_are in omega arith in
         let at : cell ≡ get_or cells i cell = any_default cells i d cell lt in
         let is : get_or r.operations i Inactive ≡ Inactive = ap (λ j. get_or r.operations j Inactive) (let e : i ≡ i + 1 - 1 = omega arith in e) ∙ r.wiped (i + 1) (omega arith) (omega arith) in
         (subst (λ o. IsOperation cell o) is (r.stand.each i cell few at), r.stand.over i cell few at (ap is_active is))
 
     pub ends : IsRetired w.lock c
     ends =
-        let none = no_lease_left c.handles.cells.items (λ i d lt. (each_idle i d lt).1) in record {
+        let none = no_lease_left c.handles.list.items (λ i d lt. (each_idle i d lt).1) in record {
           idle = (r.at.table, r.at.outside.1, no_pair_left c.pass.me.0.holding (subst (λ l. ArePairs c.pass.me.0.holding l) none r.leases), r.at.outside.2);
           cells = each_idle;
         }
 
   -- one handle more
   module _ (handle : ℕ) (old : Caller D A C) (handles : Handles) (new : Caller D A C) (r : IsRetiring w (handle - 1) old) (first : 1 ≤ handle) (last : handle ≤ 4) {lease : Option Reading}
-      (change : IsChanged old.handles.cells.items handles.cells.items r.operations handle Inactive lease) where
+      (change : IsChanged old.handles.list.items handles.list.items r.operations handle Inactive lease) where
     abbrev settled : Caller D A C
     settled = record old { handles = handles }
 
@@ -100,7 +100,7 @@ module _ {D A C : Type 0} (w : World D A C) where
             at = at;
             legal = legal;
             operations = with_operation_at r.operations handle Inactive;
-            stand = subst (λ x. AreOperations x.cells.items (with_operation_at r.operations handle Inactive)) (sym l.handles) change.stand;
+            stand = subst (λ x. AreOperations x.list.items (with_operation_at r.operations handle Inactive)) (sym l.handles) change.stand;
             wiped = wiped_one;
             leases = l.leases;
             five = l.five;

@@ -8,7 +8,7 @@ use Rattle.service_calls.specs.declared.handle_calls.KeylessSetup.TheVariants as
 use Rattle.service_calls.specs.declared.handle_calls.Purpose.{Purpose}
 use Rattle.service_calls.specs.declared.handle_calls.Purpose.TheVariants.{SignMac, VerifyMac, EncryptCipher, DecryptCipher, EncryptAead, DecryptAead}
 use Rattle.store_model.specs.KeyUse as held
-use Rattle.callers.proofs.CellLists.{once}
+use Rattle.callers.proofs.HandleLists.{once}
 
 -- what is so of the setups without a key and of those with one
 each_setup : (P : HandleCall → Type 0) → ((alg : ℕ) → P (HashSetup alg)) → ((verifies : Bool) (key alg : ℕ) → P (MacSetup verifies key alg)) →
@@ -72,16 +72,16 @@ begun_lent s lease = goes_on (record { key = Some (record { id = s.key.0; number
 by_use : (store : Store) (s : KeyedSetup) (wanted : KeyUse) → wanted ≡ used_for s.purpose s.alg →
     set_up_with_key store Inactive s
     ≡ set_up Inactive (use_refusal wanted (map.get store.keys s.key.0))
-    (record { key = creation_of s.key.0 (map.get store.keys s.key.0); work = work_begun s.purpose s.alg.0 (held.bytes_of (map.get store.keys s.key.0)) })
+    (record { key = creation_of s.key.0 (map.get store.keys s.key.0); work = work_begun s.purpose s.alg.0 (held.bytes_of_key (map.get store.keys s.key.0)) })
 by_use store s wanted uses =
     ap (λ usage. set_up Inactive (use_refusal usage (map.get store.keys s.key.0))
-    (record { key = creation_of s.key.0 (map.get store.keys s.key.0); work = work_begun s.purpose s.alg.0 (held.bytes_of (map.get store.keys s.key.0)) })) (sym uses)
+    (record { key = creation_of s.key.0 (map.get store.keys s.key.0); work = work_begun s.purpose s.alg.0 (held.bytes_of_key (map.get store.keys s.key.0)) })) (sym uses)
 
 pub set_up_lent : (store : Store) (s : KeyedSetup) (wanted : KeyUse) (lease : Reading) → wanted ≡ used_for s.purpose s.alg → IsLent (use_refusal wanted) s.key.0 lease (counted store) →
     set_up_with_key store Inactive s ≡ begun_lent s lease
 set_up_lent store s wanted lease uses (k, found, free, is) =
     by_use store s wanted uses
-    ∙ ((λ i. set_up Inactive (use_refusal wanted (found i)) (record { key = creation_of s.key.0 (found i); work = work_begun s.purpose s.alg.0 (held.bytes_of (found i)) }))
+    ∙ ((λ i. set_up Inactive (use_refusal wanted (found i)) (record { key = creation_of s.key.0 (found i); work = work_begun s.purpose s.alg.0 (held.bytes_of_key (found i)) }))
     ∙ (λ i. set_up Inactive (free i) (record { key = Some (record { id = s.key.0; number = sym is.number i }); work = work_begun s.purpose s.alg.0 (sym is.bytes i) })))
 
 is_set_up : (s : Setup) → is_setup (model_setup s) ≡ true
@@ -110,7 +110,7 @@ set_up_refused service caller handle s wanted why uses free refused =
     setups service caller handle (Keyed s)
     ∙ (ap (λ o. applied service caller handle (set_up_with_key service.store o s)) free
     ∙ (ap (applied service caller handle) (by_use service.store s wanted uses)
-    ∙ ap (λ o. applied service caller handle (set_up Inactive o (record { key = creation_of s.key.0 found; work = work_begun s.purpose s.alg.0 (held.bytes_of found) }))) refused))
+    ∙ ap (λ o. applied service caller handle (set_up Inactive o (record { key = creation_of s.key.0 found; work = work_begun s.purpose s.alg.0 (held.bytes_of_key found) }))) refused))
 
 pub is_free : (o : HandleOperation) → is_inactive o ≡ true → o ≡ Inactive
 is_free Inactive e = refl

@@ -1,6 +1,6 @@
 -- A caller before its first call.
 use Rattle.std.proofs.Common.{All, List, None, Some, [], ap, arith, count_by, get_or, length, refl, subst, suc, sym, vec_capacity, zero, ℕ, ◌-◌, ◌<◌, ◌∙◌, ◌∷◌, ◌≡◌, ◌≤◌}
-use Rattle.callers.proofs.Common.{All-weaker, AreIdle, AreOperations, Caller, Cell, Entry, HandleOperation, Inactive, IsClear, IsHolding, IsOperation, IsOutside, IsOwnPart, IsReady, IsSoundStore, Legal, Mine, Opened, OwnCalls, RandomStream, Service, Starts, TURNS, World, caller_of, entries_of, new_pass, own_of, replay, start_of, start_own}
+use Rattle.callers.proofs.Common.{All-weaker, AreIdle, AreOperations, Caller, OperationHandle, Entry, HandleOperation, Inactive, IsClear, IsHolding, IsOperation, IsOutside, IsOwnPart, IsReady, IsSoundStore, Legal, Mine, Opened, OwnCalls, RandomStream, Service, Starts, TURNS, World, caller_of, entries_of, new_pass, own_of, replay, start_of, start_own}
 use Rattle.callers.proofs.Retiring.{no_lease_left}
 
 abbrev all_inactive : List HandleOperation
@@ -17,7 +17,7 @@ inactive_before : (i : ℕ) → get_or (Inactive ∷ all_inactive) i Inactive �
 inactive_before zero = refl
 inactive_before (suc i) = inactive_at i
 
-four_inactive : (cells : List Cell) → length cells ≡ 4 → AreIdle cells → AreOperations cells all_inactive
+four_inactive : (cells : List OperationHandle) → length cells ≡ 4 → AreIdle cells → AreOperations cells all_inactive
 four_inactive cells four idle = record {
   cells_are = four;
   count = refl;
@@ -25,8 +25,8 @@ four_inactive cells four idle = record {
   over = λ i c lt at ended. (of i c lt at).1;
 }
   where
-    of : (i : ℕ) (c : Cell) → i < 4 → c ≡ get_or cells i c → IsOperation c Inactive × (c.lease ≡ None)
-    of i c lt at = subst (λ (x : Cell). IsOperation x Inactive × (x.lease ≡ None)) (sym at) (idle i c (omega arith))
+    of : (i : ℕ) (c : OperationHandle) → i < 4 → c ≡ get_or cells i c → IsOperation c Inactive × (c.lease ≡ None)
+    of i c lt at = subst (λ (x : OperationHandle). IsOperation x Inactive × (x.lease ≡ None)) (sym at) (idle i c (omega arith))
 
 module _ {D A C : Type 0} (w : World D A C) where
   own_at_start : (start : Service) (number : ℕ) → Starts w start → IsOwnPart all_inactive 0 (own_of start number)
@@ -58,11 +58,11 @@ module _ {D A C : Type 0} (w : World D A C) where
 
   -- nothing was called yet
   pub starts_ready : (c : Caller D A C) → c.pass.table_id ≡ w.lock → c.pass.me ≡ (new_pass w.opened c.number, []) → 1 ≤ c.number → c.number ≤ 16 → ((start : Service) → Starts w start → IsSoundStore start.store) →
-      length c.handles.cells.items ≡ 4 → AreIdle c.handles.cells.items → length c.spares.items ≡ 5 → All IsClear c.spares.items → 5 ≤ vec_capacity c.spares →
+      length c.handles.list.items ≡ 4 → AreIdle c.handles.list.items → length c.spares.items ≡ 5 → All IsClear c.spares.items → 5 ≤ vec_capacity c.spares →
       c.stream ≡ record { seed = w.opened.seed.value; caller = c.number; place = 0 } → c.spent ≡ 0 → IsReady w 0 c
   starts_ready c table me first last sound four idle five clear room stream none =
       let f = fresh c.number c.pass.me me in
-      let out = no_lease_left c.handles.cells.items (All-weaker (λ (x : Cell). IsOperation x Inactive × (x.lease ≡ None)) (λ (x : Cell). x.lease ≡ None) (λ x h. h.1) c.handles.cells.items idle) in record {
+      let out = no_lease_left c.handles.list.items (All-weaker (λ (x : OperationHandle). IsOperation x Inactive × (x.lease ≡ None)) (λ (x : OperationHandle). x.lease ≡ None) (λ x h. h.1) c.handles.list.items idle) in record {
         at = record {
           table = table;
           outside = f.outside;
@@ -77,7 +77,7 @@ module _ {D A C : Type 0} (w : World D A C) where
         legal = subst (λ seen. Legal w (entries_of seen)) (sym f.seen) (record { signed = tt; caused = tt; rising = tt; allowed = λ start is tells. tt });
         sound = sound;
         operations = all_inactive;
-        stand = four_inactive c.handles.cells.items four idle;
+        stand = four_inactive c.handles.list.items four idle;
         own = λ start is tells.
             let place = ap (λ (s : RandomStream). s.place) stream in
             subst (λ p. IsOwnPart all_inactive p (own_of (replay start (entries_of c.pass.me.0.seen)) c.number)) (sym place)

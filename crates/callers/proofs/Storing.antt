@@ -1,9 +1,9 @@
 -- A caller after a call on the store. For one that creates a key a slot is reserved first, and a ranked turn follows.
 use Rattle.std.proofs.Common.{Err, IfErr, IfOk, List, Ok, OnOk, Result, ap, arith, count_by, false, length, subst, sym, ℕ, ◌∙◌, ◌≡◌, ◌≤◌, None, Option, Some, [], refl, ◌+◌, ◌<◌, ◌==◌, ◌∷◌}
-use Rattle.callers.proofs.Common.{AreOperations, ArePairs, Call, Caller, DecidesAfter, DecidesBefore, Entry, FaultMark, IsAnswered, IsAt, IsCalled, IsOwnPart, IsRanked, IsReady, IsReplied, KnowsBefore, Legal, OnStore, Output, Random, RandomStream, Request, SameButPass, Served, Service, Status, TellsFailure, TellsReply, World, counted, drawn_from, draws_none, entries_of, leases_of, leaves_shared, may_change_keys, next_random, outcome_of, own_of, replay, replay_push, serve, step, words_used, Attributes, Cell, CreatesKey, HasNoFilling, IsCreated, IsLater, Opened, Pairs, View, filling_pair, names, nat_tests, pairs_of, without_pair}
+use Rattle.callers.proofs.Common.{AreOperations, ArePairs, Call, Caller, DecidesAfter, DecidesBefore, Entry, FaultMark, IsAnswered, IsAt, IsCalled, IsOwnPart, IsRanked, IsReady, IsReplied, KnowsBefore, Legal, OnStore, Output, Random, RandomStream, Request, SameButPass, Served, Service, Status, TellsFailure, TellsReply, World, counted, drawn_from, draws_none, entries_of, leases_of, leaves_shared, may_change_keys, next_random, outcome_of, own_of, replay, replay_push, serve, step, words_used, Attributes, OperationHandle, CreatesKey, HasNoFilling, IsCreated, IsLater, Opened, Pairs, View, filling_pair, names, nat_tests, pairs_of, without_pair}
 use Rattle.store_model.specs.Store as model
 use Rattle.slot_table.specs.Lent as lent
-use Rattle.callers.proofs.CellLists.{first_named, once, tally-append, tally-cons, without}
+use Rattle.callers.proofs.HandleLists.{first_named, once, tally-append, tally-cons, without}
 use Rattle.callers.proofs.Journeys.{called, goes_on_before, then_called}
 use Rattle.callers.proofs.KeyReplies.{Gives}
 use Rattle.callers.proofs.Looking.{AreSpares, same_spares}
@@ -37,12 +37,12 @@ module _ {D A C : Type 0} (w : World D A C) (old new : Caller D A C) (r : IsRead
   kept_ready drawn few enough kept at legal own =
       let left = c.left in let spent = kept.spent in let place = ap (λ (s : RandomStream). s.place) kept.stream in ready w 4 old new r turns request mark rank before e c r.operations 0 at legal (record {
         number = kept.number;
-        stand = subst (λ h. AreOperations h.cells.items r.operations) (sym kept.handles) r.stand;
+        stand = subst (λ h. AreOperations h.list.items r.operations) (sym kept.handles) r.stand;
         own = λ start is tells.
             subst (λ (s : Served). IsOwnPart r.operations new.stream.place (own_of s.service old.number)) (sym (outcome (replay start before))) (own start is tells);
-        leases = λ f. kept.holding f ∙ (r.leases f ∙ ap (λ h. count_by f (leases_of h.cells.items)) (sym kept.handles));
+        leases = λ f. kept.holding f ∙ (r.leases f ∙ ap (λ h. count_by f (leases_of h.list.items)) (sym kept.handles));
         clear = kept.spares.clear;
-        five = let a = ap (λ h. length (leases_of h.cells.items)) kept.handles in let b = kept.spares.many in let f = r.five in omega arith;
+        five = let a = ap (λ h. length (leases_of h.list.items)) kept.handles in let b = kept.spares.many in let f = r.five in omega arith;
         room = let a = kept.spares.room in let f = r.room in omega arith;
         seed = ap (λ (s : RandomStream). s.seed) kept.stream;
         stream_of = ap (λ (s : RandomStream). s.caller) kept.stream;
@@ -128,12 +128,12 @@ one_lease (Some lease) = let m = tally-cons (λ (p : ℕ × ℕ). p.1 == 0) (lea
     no_zero : (n : ℕ) → (n + 1 == 0) ≡ false
     no_zero n = grind (arith, nat_tests)
 
-pub leases_only : (cells : List Cell) → HasNoFilling (leases_of cells)
+pub leases_only : (cells : List OperationHandle) → HasNoFilling (leases_of cells)
 leases_only [] = refl
 leases_only (c ∷ cs) = let a = tally-append (λ (p : ℕ × ℕ). p.1 == 0) (pairs_of c.lease) (leases_of cs) in let b = one_lease c.lease in let r = leases_only cs in omega arith
 
 pub has_no_filling : {D A C : Type 0} (w : World D A C) (n : ℕ) (old : Caller D A C) → IsReady w n old → HasNoFilling old.pass.me.0.holding
-has_no_filling w n old r = r.leases (λ p. p.1 == 0) ∙ leases_only old.handles.cells.items
+has_no_filling w n old r = r.leases (λ p. p.1 == 0) ∙ leases_only old.handles.list.items
 
 -- the slot that was reserved is out
 pub reserved : (filling : lent.Reserved) (own more : Pairs) → more ≡ filling_pair filling ∷ own → 0 < names filling.slot 0 more

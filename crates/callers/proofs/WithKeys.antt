@@ -25,17 +25,17 @@ module _ (asked : KeyedCall) (id room : ℕ) (wanted : KeyUse) (uses : wanted �
   -- a call by what it looks its key for
   of_use : (store : Store) (caller : ℕ) (random : Random) → IsLocal asked id store →
       step store caller random (model_keyed_call asked id room)
-      ≡ with_computed store (computed_unless (use_refusal wanted (map.get store.keys id)) (computed_by asked (held.bytes_of (map.get store.keys id)) random room))
+      ≡ with_computed store (computed_unless (use_refusal wanted (map.get store.keys id)) (computed_by asked (held.bytes_of_key (map.get store.keys id)) random room))
   of_use store caller random local =
       keyed store caller random asked id room local
-      ∙ ap (λ usage. with_computed store (computed_unless (use_refusal usage (map.get store.keys id)) (computed_by asked (held.bytes_of (map.get store.keys id)) random room))) (sym uses)
+      ∙ ap (λ usage. with_computed store (computed_unless (use_refusal usage (map.get store.keys id)) (computed_by asked (held.bytes_of_key (map.get store.keys id)) random room))) (sym uses)
 
   -- the key is lent
   pub lent_step : (store : Store) (caller : ℕ) (random : Random) (lease : Reading) → IsLocal asked id store → IsLent (use_refusal wanted) id lease (counted store) →
       step store caller random (model_keyed_call asked id room) ≡ with_computed store (computed_by asked (bytes_of lease.buffer) random room)
   lent_step store caller random lease local lent =
       of_use store caller random local
-      ∙ (ap (λ found. with_computed store (computed_unless (use_refusal wanted found) (computed_by asked (held.bytes_of found) random room))) lent.1
+      ∙ (ap (λ found. with_computed store (computed_unless (use_refusal wanted found) (computed_by asked (held.bytes_of_key found) random room))) lent.1
       ∙ (ap (λ row. with_computed store (computed_unless row (computed_by asked lent.0.bytes random room))) lent.2
       ∙ ap (λ bytes. with_computed store (computed_by asked bytes random room)) (sym lent.3.bytes)))
 
@@ -43,7 +43,7 @@ module _ (asked : KeyedCall) (id room : ℕ) (wanted : KeyUse) (uses : wanted �
   refused_step : (store : Store) (caller : ℕ) (random : Random) (why : Status) → IsLocal asked id store → use_refusal wanted (map.get store.keys id) ≡ Some why →
       step store caller random (model_keyed_call asked id room) ≡ refused store why
   refused_step store caller random why local row =
-      of_use store caller random local ∙ ap (λ o. with_computed store (computed_unless o (computed_by asked (held.bytes_of (map.get store.keys id)) random room))) row
+      of_use store caller random local ∙ ap (λ o. with_computed store (computed_unless o (computed_by asked (held.bytes_of_key (map.get store.keys id)) random room))) row
 
   plain_refusal : (service : Service) (caller : ℕ) (why : Status) → step service.store caller (next_random service caller) (model_keyed_call asked id room) ≡ refused service.store why →
       IsRefusal service caller (model_keyed_call asked id room) Plain why

@@ -8,7 +8,7 @@ use Rattle.service_calls.specs.Meanings.{model_step}
 use Rattle.service_calls.specs.declared.steps.Step.{Step}
 use Rattle.store_model.specs.Prelude.{DerivationWork, key_step_rows, with_key, without, Deriving, HandleOperation, Held, KeyCreation, derivation_part, key_of_operation, part_of, Active, After, InError}
 use Rattle.operation_handles.specs.Steps.{stepped_by}
-use Rattle.operation_handles.specs.declared.cell.Cell.{Cell}
+use Rattle.operation_handles.specs.declared.handle.OperationHandle.{OperationHandle}
 use Rattle.callers.specs.Handles.{AreOperations, IsChanged, operation_at}
 
 -- what a step makes of a handle's operation, by whether its key is there
@@ -30,7 +30,7 @@ abbrev pub MayTakeKey : HandleOperation → (step : ℕ) → Type 0
 MayTakeKey operation step = (w : DerivationWork) × (part_of derivation_part operation ≡ Active w) × (first_row (key_step_rows w step) ≡ None)
 
 -- a derivation that runs is in error from then on, and its lease is handed out
-abbrev pub FailsDerivation : (old new : List Cell) → (op : ℕ) → Option Reading → Type 0
+abbrev pub FailsDerivation : (old new : List OperationHandle) → (op : ℕ) → Option Reading → Type 0
 FailsDerivation old new op lease =
     (operations : List HandleOperation) (w : DerivationWork) → AreOperations old operations → part_of derivation_part (operation_at operations op) ≡ Active w →
     IsChanged old new operations op InError lease

@@ -15,7 +15,7 @@ pub record IsOwnPart (operations : List HandleOperation) (place : ℕ) (own : Ow
   pub each : (handle : ℕ) → 1 ≤ handle → handle ≤ 4 → get_or own.operations handle Inactive ≡ operation_at operations handle
 
 module _ {D A C : Type 0} (w : World D A C) where
-  -- The caller is outside any turn. Its cells stand for its handles' operations, and all that it has out of the store are their
+  -- The caller is outside any turn. Its handles stand for its operations, and all that it has out of the store are their
   -- leases: it has a spare for each other one of five. From each start and as far as what it has seen is told, operations and
   -- stream are those of the one-thread service. `slack` turns are left beside those that its count of calls and the ends of its
   -- operations still need, and 64 random words for each.
@@ -27,12 +27,12 @@ module _ {D A C : Type 0} (w : World D A C) where
     pub legal : Legal w (entries_of c.pass.me.0.seen)
     pub sound : (start : Service) → Starts w start → IsSoundStore start.store
     pub operations : List HandleOperation
-    pub stand : AreOperations c.handles.cells.items operations
+    pub stand : AreOperations c.handles.list.items operations
     pub own : (start : Service) → Starts w start → IsToldTo w start (entries_of c.pass.me.0.seen) →
         IsOwnPart operations c.stream.place (own_of (replay start (entries_of c.pass.me.0.seen)) c.number)
-    pub leases : ArePairs c.pass.me.0.holding (leases_of c.handles.cells.items)
+    pub leases : ArePairs c.pass.me.0.holding (leases_of c.handles.list.items)
     pub clear : All IsClear c.spares.items
-    pub five : length (leases_of c.handles.cells.items) + length c.spares.items ≡ 5
+    pub five : length (leases_of c.handles.list.items) + length c.spares.items ≡ 5
     pub room : 5 ≤ vec_capacity c.spares
     pub seed : c.stream.seed ≡ w.opened.seed.value
     pub stream_of : c.stream.caller ≡ c.number

@@ -20,7 +20,7 @@ module _ {D A C : Type 0} where
   -- The caller has nothing out of the store any more, and nothing is left of its operations.
   pub record IsRetired (lock : TableId) (c : Caller D A C) : Type 0 where
     pub idle : IsIdle lock c.pass
-    pub cells : AreIdle c.handles.cells.items
+    pub cells : AreIdle c.handles.list.items
 
   -- The operations of so many handles, from 1 on, are wiped. All that the caller has out of the store are the leases of the
   -- others, it has a turn for each of them, and room for the spare.
@@ -28,9 +28,9 @@ module _ {D A C : Type 0} where
     pub at : IsAt w c.pass
     pub legal : Legal w (entries_of c.pass.me.0.seen)
     pub operations : List HandleOperation
-    pub stand : AreOperations c.handles.cells.items operations
+    pub stand : AreOperations c.handles.list.items operations
     pub wiped : (handle : ℕ) → 1 ≤ handle → handle ≤ count → operation_at operations handle ≡ Inactive
-    pub leases : ArePairs c.pass.me.0.holding (leases_of c.handles.cells.items)
-    pub five : length (leases_of c.handles.cells.items) + length c.spares.items ≡ 5
+    pub leases : ArePairs c.pass.me.0.holding (leases_of c.handles.list.items)
+    pub five : length (leases_of c.handles.list.items) + length c.spares.items ≡ 5
     pub room : 5 ≤ vec_capacity c.spares
     pub turns : 4 ≤ c.pass.me.0.turns_left + count

@@ -24,11 +24,11 @@ module _ {D A C : Type 0} where
   -- the budget sufficed for the call, and this is what it has counted
   abbrev pub HasCounted : (old new : Caller D A C) → (worn : ℕ) → Call → Result Output Status → Type 0
   HasCounted old new worn call result =
-      (operations : List HandleOperation) → AreOperations old.handles.cells.items operations →
+      (operations : List HandleOperation) → AreOperations old.handles.list.items operations →
       (old.spent + asked_for call operations ≤ worn) × (new.spent ≡ old.spent + counted_by call operations result)
 
   -- the budget doesn't suffice for the call, and nothing has changed
   abbrev pub IsOverBudget : (old new : Caller D A C) → (worn : ℕ) → Call → Result Output Status → (shown given : List ℕ) → Type 0
   IsOverBudget old new worn call result shown given =
-      (operations : List HandleOperation) → AreOperations old.handles.cells.items operations →
+      (operations : List HandleOperation) → AreOperations old.handles.list.items operations →
       (worn < old.spent + asked_for call operations) × (result ≡ Err PassWorn) × (new ≡ old) × (given ≡ shown)

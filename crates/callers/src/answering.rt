@@ -67,8 +67,8 @@ impl<D: Disk, A: Devices, C: Admission> Caller<D, A, C> {
     // The handle whose operation a call aborts, where that isn't inactive.
     fn ends(&self, call: &Call<'_>) -> Option<Op>
         ensures some { IfSome result (λ op. (call.now ≡ calls.OnHandle op handle_calls.Abort) × (1 ≤ op) × (op ≤ 4)) }
-        ensures busy { IfSome result (λ op. (operations : List HandleOperation) → AreOperations self.now.handles.cells.items operations → is_inactive (operation_at operations op) ≡ false) }
-        ensures none { IfNone result ((operations : List HandleOperation) → AreOperations self.now.handles.cells.items operations → is_counted call.now operations ≡ true) }
+        ensures busy { IfSome result (λ op. (operations : List HandleOperation) → AreOperations self.now.handles.list.items operations → is_inactive (operation_at operations op) ≡ false) }
+        ensures none { IfNone result ((operations : List HandleOperation) → AreOperations self.now.handles.list.items operations → is_counted call.now operations ≡ true) }
     {
         match *call {
             Call::OnHandle(op, HandleCall::Abort) => {

@@ -11,7 +11,7 @@ use admission::Admission;
 use disk_face::Disk;
 use driver_dispatch::Devices;
 use locked_store::{Held, SharedStore};
-use operation_handles::Cell;
+use operation_handles::OperationHandle;
 use random_streams::Stream;
 use secret_bytes::Secret;
 use turn_history::Pass;
@@ -30,14 +30,14 @@ pub struct Caller<D: Disk, A: Devices, C: Admission> {
 
 impl<D: Disk, A: Devices, C: Admission> Caller<D, A, C> {
     /// The caller of this number, 1 to 16, by its pass of a store that was opened with this seed. It has called nothing. The
-    /// spares are five, and the cells four.
+    /// spares are five, and the handles four.
     pub fn new(
         _shared: &SharedStore<D, A, C>,
         pass: Pass<Held<D, A, C>>,
         number: u8,
         seed: &[u8; 32],
         spares: Vec<Secret>,
-        cells: Vec<Cell>,
+        handles: Vec<OperationHandle>,
     ) -> Caller<D, A, C>
         requires table { pass.table_id ≡ (world _shared.now).lock }
         requires fresh { pass.me ≡ (new_pass (world _shared.now).opened number, []) }
@@ -47,8 +47,8 @@ impl<D: Disk, A: Devices, C: Admission> Caller<D, A, C> {
         requires seed { seed.now ≡ (world _shared.now).opened.seed.value }
         requires five { length spares.items ≡ 5 }
         requires clear { All IsClear spares.items }
-        requires four { length cells.items ≡ 4 }
-        requires inactive { AreIdle cells.items }
+        requires four { length handles.items ≡ 4 }
+        requires inactive { AreIdle handles.items }
         ensures ready { IsReady (world _shared.now) 0 result }
         ensures pass { result.pass ≡ pass }
         ensures number { result.number ≡ number }
@@ -60,7 +60,7 @@ impl<D: Disk, A: Devices, C: Admission> Caller<D, A, C> {
             pass,
             stream: Stream::new(seed, number),
             spares,
-            handles: Handles { cells },
+            handles: Handles { list: handles },
         }
     }
 

@@ -15,15 +15,15 @@ use std::sync::Wait;
 use turn_history::Pass;
 
 impl Handles {
-    // Lets the cells go, which hold no lease any more.
+    // Lets the handles go, which hold no lease any more.
     fn free(self)
-        requires { All (λ c. c.lease ≡ None) self.cells.items }
+        requires { All (λ c. c.lease ≡ None) self.list.items }
     {
-        let Handles { mut cells } = self;
-        while let Some(cell) = cells.pop() {
+        let Handles { mut list } = self;
+        while let Some(cell) = list.pop() {
             let _states = cell.into_states();
         }
-        cells.destroy_empty();
+        list.destroy_empty();
     }
 }
 
@@ -57,7 +57,7 @@ impl<D: Disk, A: Devices, C: Admission> Caller<D, A, C> {
 
     /// The pass of a caller that has retired.
     pub fn into_pass(self) -> Pass<Held<D, A, C>>
-        requires retired { AreIdle self.handles.cells.items }
+        requires retired { AreIdle self.handles.list.items }
         ensures pass { result ≡ self.pass }
     {
         let Caller {

@@ -3,9 +3,9 @@ ghost use Rattle.std.specs.Prelude.{◌≡◌, ◌≤◌, ◌-◌, ℕ, List, So
 ghost use Rattle.service_calls.specs.declared.call.Call.TheVariants as calls;
 ghost use Rattle.service_calls.specs.declared.handle_calls.HandleCall.TheVariants as handle_calls;
 ghost use Rattle.store_model.specs.Prelude.{HandleOperation, derivation_part, part_of};
-ghost use Rattle.operation_handles.specs.Cells.{IsOperation};
+ghost use Rattle.operation_handles.specs.Handles.{IsOperation};
 ghost use Rattle.operation_handles.specs.KeyInputs.{RefusesKeyAt, TakesKeyAt};
-ghost use Rattle.operation_handles.specs.declared.cell.Cell.{Cell};
+ghost use Rattle.operation_handles.specs.declared.handle.OperationHandle.{OperationHandle};
 ghost use Rattle.callers.specs.Prelude.{IsReady, IsServedUnwritten};
 ghost use Rattle.locked_store.specs.Prelude.{world};
 ghost use Rattle.derivation_states.specs.KeySteps.{output_key_refusal};
@@ -69,7 +69,7 @@ impl<D: Disk, A: Devices, C: Admission> Caller<D, A, C> {
     ) -> (u64, Result<Output, Status>)
         requires ready { IsReady (world shared.now) 4 self.old }
         requires call { call.now ≡ calls.OnHandle op (handle_calls.InputKey step key) }
-        requires refuses { (c : Cell) (operation : HandleOperation) → c ≡ get_or self.old.handles.cells.items (op - 1) c → IsOperation c operation → RefusesKeyAt operation step }
+        requires refuses { (c : OperationHandle) (operation : HandleOperation) → c ≡ get_or self.old.handles.list.items (op - 1) c → IsOperation c operation → RefusesKeyAt operation step }
         ensures ready { IsReady (world shared.now) 0 self.new }
         ensures answered { IsServedUnwritten (world shared.now) self.old self.new call.now room result }
         ensures spent { self.new.spent ≡ self.old.spent }
@@ -98,7 +98,7 @@ impl<D: Disk, A: Devices, C: Admission> Caller<D, A, C> {
     ) -> (u64, Result<Output, Status>)
         requires ready { IsReady (world shared.now) 4 self.old }
         requires call { call.now ≡ calls.OnHandle op (handle_calls.InputKey step key) }
-        requires takes { (c : Cell) (operation : HandleOperation) → c ≡ get_or self.old.handles.cells.items (op - 1) c → IsOperation c operation → TakesKeyAt operation step wanted × (c.lease ≡ None) }
+        requires takes { (c : OperationHandle) (operation : HandleOperation) → c ≡ get_or self.old.handles.list.items (op - 1) c → IsOperation c operation → TakesKeyAt operation step wanted × (c.lease ≡ None) }
         requires first { 1 ≤ op }
         requires last { op ≤ 4 }
         ensures ready { IsReady (world shared.now) 0 self.new }
@@ -167,7 +167,7 @@ impl<D: Disk, A: Devices, C: Admission> Caller<D, A, C> {
     ) -> (u64, Result<Output, Status>)
         requires ready { IsReady (world shared.now) 4 self.old }
         requires call { call.now ≡ calls.OnHandle op (handle_calls.OutputKey attributes) }
-        requires refused { (c : Cell) (operation : HandleOperation) → c ≡ get_or self.old.handles.cells.items (op - 1) c → IsOperation c operation →
+        requires refused { (c : OperationHandle) (operation : HandleOperation) → c ≡ get_or self.old.handles.list.items (op - 1) c → IsOperation c operation →
             output_key_refusal (part_of derivation_part operation) attributes ≡ None → ⊥ }
         requires first { 1 ≤ op }
         requires last { op ≤ 4 }
@@ -195,7 +195,7 @@ impl<D: Disk, A: Devices, C: Admission> Caller<D, A, C> {
     ) -> (u64, Result<Output, Status>)
         requires ready { IsReady (world shared.now) 4 self.old }
         requires call { call.now ≡ calls.OnHandle op (handle_calls.OutputKey attributes) }
-        requires due { (c : Cell) (operation : HandleOperation) → c ≡ get_or self.old.handles.cells.items (op - 1) c → IsOperation c operation →
+        requires due { (c : OperationHandle) (operation : HandleOperation) → c ≡ get_or self.old.handles.list.items (op - 1) c → IsOperation c operation →
             output_key_refusal (part_of derivation_part operation) attributes ≡ None }
         requires first { 1 ≤ op }
         requires last { op ≤ 4 }

@@ -5,8 +5,8 @@ ghost use Rattle.service_calls.specs.Asked.{sets_up, sets_up_with};
 ghost use Rattle.service_calls.specs.declared.call.Call.TheVariants as calls;
 ghost use Rattle.service_calls.specs.declared.handle_calls.HandleCall.TheVariants as handle_calls;
 ghost use Rattle.store_model.specs.Prelude.{HandleOperation, Inactive, is_inactive};
-ghost use Rattle.operation_handles.specs.Cells.{IsOperation};
-ghost use Rattle.operation_handles.specs.declared.cell.Cell.{Cell};
+ghost use Rattle.operation_handles.specs.Handles.{IsOperation};
+ghost use Rattle.operation_handles.specs.declared.handle.OperationHandle.{OperationHandle};
 ghost use Rattle.callers.specs.Prelude.{AreOperations, IsAnswered, IsReady, IsServed, IsServedUnwritten, operation_at};
 ghost use Rattle.locked_store.specs.Prelude.{world};
 ghost use Rattle.service_calls.specs.Meanings.{model_request};
@@ -66,7 +66,7 @@ impl<D: Disk, A: Devices, C: Admission> Caller<D, A, C> {
         requires ready { IsReady (world shared.now) 4 self.old }
         requires call { call.now ≡ sets_up op setup }
         requires worn { self.old.spent < 2 ^ 48 }
-        requires free { (c : Cell) (operation : HandleOperation) → c ≡ get_or self.old.handles.cells.items (op - 1) c → IsOperation c operation → operation ≡ Inactive }
+        requires free { (c : OperationHandle) (operation : HandleOperation) → c ≡ get_or self.old.handles.list.items (op - 1) c → IsOperation c operation → operation ≡ Inactive }
         ensures ready { IsReady (world shared.now) 0 self.new }
         ensures answered { IsServedUnwritten (world shared.now) self.old self.new call.now room result }
         ensures spent { self.new.spent ≡ self.old.spent + cond (is_ok result.1) 1 0 }
@@ -95,7 +95,7 @@ impl<D: Disk, A: Devices, C: Admission> Caller<D, A, C> {
         requires ready { IsReady (world shared.now) 4 self.old }
         requires call { call.now ≡ sets_up_with op setup.key setup.purpose setup.alg }
         requires worn { self.old.spent < 2 ^ 48 }
-        requires free { (c : Cell) (operation : HandleOperation) → c ≡ get_or self.old.handles.cells.items (op - 1) c → IsOperation c operation → operation ≡ Inactive }
+        requires free { (c : OperationHandle) (operation : HandleOperation) → c ≡ get_or self.old.handles.list.items (op - 1) c → IsOperation c operation → operation ≡ Inactive }
         requires first { 1 ≤ op }
         requires last { op ≤ 4 }
         ensures ready { IsReady (world shared.now) 0 self.new }
@@ -156,7 +156,7 @@ impl<D: Disk, A: Devices, C: Admission> Caller<D, A, C> {
         op: Op,
     ) -> u64
         requires ready { IsReady (world shared.now) 0 self.old }
-        requires counted { (operations : List HandleOperation) → AreOperations self.old.handles.cells.items operations → is_inactive (operation_at operations op) ≡ true → IsReady (world shared.now) 4 self.old }
+        requires counted { (operations : List HandleOperation) → AreOperations self.old.handles.list.items operations → is_inactive (operation_at operations op) ≡ true → IsReady (world shared.now) 4 self.old }
         requires call { call.now ≡ calls.OnHandle op handle_calls.Abort }
         ensures ready { IsReady (world shared.now) 0 self.new }
         ensures answered { (buffer : List ℕ) → IsAnswered (world shared.now) self.old.pass.me.0 self.new.pass.me.0 (model_request call.now room) result (Ok Done) buffer buffer }

@@ -1,6 +1,6 @@
 -- ECB and CBC of a text in two parts, of which the first is whole blocks.
 use Rattle.std.proofs.Common.{List, [], ap, append_assoc, ap₂, arith, drop, length, map, refl, suc, sym, take, zero, ℕ, ◌%◌, ◌*◌, ◌++◌, ◌+◌, ◌/◌, ◌∙◌, ◌∷◌, ◌≡◌}
-use Rattle.cipher_states.proofs.Common.{blocks, cbc_blocks, cbc_plain_blocks, drop-append-le, joined, last_block, take-append-le, xor_bytes}
+use Rattle.cipher_states.proofs.Common.{blocks, cbc_blocks, cbc_plain_blocks, drop-append-le, joined, last_ciphertext_block, take-append-le, xor_bytes}
 use Rattle.std.proofs.lemmas.Grind.{flat_map-append}
 use Rattle.std.proofs.lemmas.List.{length-append, length-take, length-drop, take-append-drop, append-nil, drop-drop, drop_at}
 use Rattle.crypto_specs.proofs.XorBytes.{length-xor_bytes}
@@ -75,7 +75,7 @@ last_of chain [] = chain
 last_of chain (b ∷ bs) = last_of b bs
 
 -- as the end of the joined blocks
-pub last_joined : (iv : List ℕ) (bs : List (List ℕ)) → length iv ≡ 16 → EachLong bs → last_block iv (joined bs) ≡ last_of iv bs
+pub last_joined : (iv : List ℕ) (bs : List (List ℕ)) → length iv ≡ 16 → EachLong bs → last_ciphertext_block iv (joined bs) ≡ last_of iv bs
 last_joined iv [] long h = append-nil iv
 last_joined iv (b ∷ bs) long h =
     let rest : List ℕ = joined bs in
@@ -84,7 +84,7 @@ last_joined iv (b ∷ bs) long h =
     ∙ ap (drop (length rest)) (drop_at iv (b ++ rest) 16 long) ∙ last_joined b bs h.0 h.1
 
 -- the last block of two parts
-pub last_twice : (chain a b : List ℕ) → last_block chain (a ++ b) ≡ last_block (last_block chain a) b
+pub last_twice : (chain a b : List ℕ) → last_ciphertext_block chain (a ++ b) ≡ last_ciphertext_block (last_ciphertext_block chain a) b
 last_twice chain a b =
     let front : List ℕ = chain ++ a in
     ap₂ (λ (n : ℕ) (l : List ℕ). drop n l) (length-append a b) (sym (append_assoc chain a b))

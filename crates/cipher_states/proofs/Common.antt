@@ -6,7 +6,7 @@ pub use Rattle.aead_streams.specs.declared.counter_width.CounterWidth.TheVariant
 pub use Rattle.cipher_states.specs.Modes.{due_bytes, is_stream, keeps_last}
 pub use Rattle.cipher_states.specs.States.{HoldsCipher, RunsMode, due_now}
 pub use Rattle.cipher_states.specs.Texts.{HoldsBlockText, RunsBlocks}
-pub use Rattle.cipher_states.specs.Ways.{chains, last_block, next_chain, processed, way_of}
+pub use Rattle.cipher_states.specs.Ways.{chains, last_ciphertext_block, next_chain, processed, way_of}
 pub use Rattle.cipher_states.specs.declared.running.RunningCipher.{RunningCipher}
 pub use Rattle.cipher_states.specs.declared.ways.Way.{Way}
 pub use Rattle.cipher_states.specs.declared.ways.Way.TheVariants.{CbcDecrypt, CbcEncrypt, EcbDecrypt, EcbEncrypt}

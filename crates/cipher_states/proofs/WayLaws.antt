@@ -1,6 +1,6 @@
 -- What the ways make of a text in two parts.
 use Rattle.std.proofs.Common.{List, ap, ap₂, arith, length, map, refl, sym, true, ℕ, ◌%◌, ◌++◌, ◌/◌, ◌∙◌, ◌≡◌}
-use Rattle.cipher_states.proofs.Common.{CbcDecrypt, CbcEncrypt, EcbDecrypt, EcbEncrypt, Way, aes_decrypt, aes_encrypt, blocks, cbc_blocks, cbc_decrypt, cbc_encrypt, cbc_plain_blocks, chains, ecb_decrypt, ecb_encrypt, last_block, map-append, next_chain, processed}
+use Rattle.cipher_states.proofs.Common.{CbcDecrypt, CbcEncrypt, EcbDecrypt, EcbEncrypt, Way, aes_decrypt, aes_encrypt, blocks, cbc_blocks, cbc_decrypt, cbc_encrypt, cbc_plain_blocks, chains, ecb_decrypt, ecb_encrypt, last_ciphertext_block, map-append, next_chain, processed}
 use Rattle.std.proofs.lemmas.List.{length-append, length-drop}
 use Rattle.cipher_states.proofs.BlockLaws.{EachLong, blocks-long, blocks_joined, by_blocks, cbc-long, cbc_on, cbc_plain-long, cbc_plain_on, ecb-long, last_joined, last_of, last_twice, length-by_blocks, two_parts}
 
@@ -63,7 +63,7 @@ known_chain CbcEncrypt key iv chain a b whole v e =
 known_chain CbcDecrypt key iv chain a b whole v e =
     let n : ℕ = length a / 16 in
     ap (λ (c : List ℕ). cbc_decrypt (aes_decrypt key) c b)
-    (sym (e refl ∙ ap (last_block iv) (sym (blocks_joined n a (omega arith))) ∙ last_joined iv (blocks n a) (v refl) (blocks-long n a (omega arith))))
+    (sym (e refl ∙ ap (last_ciphertext_block iv) (sym (blocks_joined n a (omega arith))) ∙ last_joined iv (blocks n a) (v refl) (blocks-long n a (omega arith))))
 known_chain way key iv chain a b whole v e = refl
 
 pub processed_parts : (way : Way) (key iv chain a b : List ℕ) → length a % 16 ≡ 0 → (chains way ≡ true → length iv ≡ 16) → (chains way ≡ true → chain ≡ next_chain way key iv a)
@@ -79,13 +79,13 @@ length-processed way key iv text v whole =
 pub next_chain_parts : (way : Way) (key iv chain a b : List ℕ) → length a % 16 ≡ 0 → (chains way ≡ true → length iv ≡ 16) → chains way ≡ true → chain ≡ next_chain way key iv a
     → next_chain way key iv (a ++ b) ≡ next_chain way key chain b
 next_chain_parts CbcEncrypt key iv chain a b whole v c e =
-    ap (last_block iv) (processed_parts CbcEncrypt key iv chain a b whole v (λ _. e))
+    ap (last_ciphertext_block iv) (processed_parts CbcEncrypt key iv chain a b whole v (λ _. e))
     ∙ last_twice iv (cbc_encrypt (aes_encrypt key) iv a) (cbc_encrypt (aes_encrypt key) chain b)
-    ∙ ap (λ (l : List ℕ). last_block l (cbc_encrypt (aes_encrypt key) chain b)) (sym e)
-next_chain_parts CbcDecrypt key iv chain a b whole v c e = last_twice iv a b ∙ ap (λ (l : List ℕ). last_block l b) (sym e)
+    ∙ ap (λ (l : List ℕ). last_ciphertext_block l (cbc_encrypt (aes_encrypt key) chain b)) (sym e)
+next_chain_parts CbcDecrypt key iv chain a b whole v c e = last_twice iv a b ∙ ap (λ (l : List ℕ). last_ciphertext_block l b) (sym e)
 next_chain_parts way key iv chain a b whole v c e = cc
 
-length-last : (chain text : List ℕ) → length (last_block chain text) ≡ length chain
+length-last : (chain text : List ℕ) → length (last_ciphertext_block chain text) ≡ length chain
 length-last chain text = omega (arith, length-drop (length text) (chain ++ text), length-append chain text)
 
 pub length-next_chain : (way : Way) (key iv text : List ℕ) → length (next_chain way key iv text) ≡ length iv

@@ -5,7 +5,7 @@ use Rattle.aead_streams.specs.declared.counter_width.CounterWidth.TheVariants.{W
 use Rattle.aead_streams.specs.Streams.{IsAt, IsClearStream}
 use Rattle.store_model.specs.Prelude.{Mode, mode_of, CipherWork, bytes_or_empty, takes_text, Operation}
 use Rattle.key_policy.specs.Modes.{model_mode}
-use Rattle.multipart.specs.States.{IsOperation}
+use Rattle.multipart.specs.States.{StandsForOperation}
 use Rattle.cipher_states.specs.declared.running.RunningCipher.{RunningCipher}
 use Rattle.cipher_states.specs.declared.state.CipherState.{CipherState}
 use Rattle.cipher_states.specs.Modes.{due_bytes, is_stream, keeps_last}
@@ -39,7 +39,7 @@ IsClearCipher s = IsClearRunningCipher s.state.work
 
 -- the state stands for this operation
 abbrev pub IsCipherOperation : CipherState → Operation CipherWork → Type 0
-IsCipherOperation s op = IsOperation IsClearRunningCipher HoldsCipher s.state op
+IsCipherOperation s op = StandsForOperation IsClearRunningCipher HoldsCipher s.state op
 
 -- how many bytes of output so many bytes of input give
 abbrev pub due_now : RunningCipher → ℕ → ℕ

@@ -25,12 +25,12 @@ processed CbcEncrypt key chain text = cbc_encrypt (aes_encrypt key) chain text
 processed CbcDecrypt key chain text = cbc_decrypt (aes_decrypt key) chain text
 
 -- the last block of a ciphertext, and a block of 16 bytes where it is empty
-abbrev pub last_block : (chain text : List ℕ) → List ℕ
-last_block chain text = drop (length text) (chain ++ text)
+abbrev pub last_ciphertext_block : (chain text : List ℕ) → List ℕ
+last_ciphertext_block chain text = drop (length text) (chain ++ text)
 
 -- what the blocks after a text are chained with
 abbrev pub next_chain : Way → (key chain text : List ℕ) → List ℕ
 next_chain EcbEncrypt key chain text = chain
 next_chain EcbDecrypt key chain text = chain
-next_chain CbcEncrypt key chain text = last_block chain (cbc_encrypt (aes_encrypt key) chain text)
-next_chain CbcDecrypt key chain text = last_block chain text
+next_chain CbcEncrypt key chain text = last_ciphertext_block chain (cbc_encrypt (aes_encrypt key) chain text)
+next_chain CbcDecrypt key chain text = last_ciphertext_block chain text

@@ -1,5 +1,5 @@
 -- The steps of a chain: a block is enciphered, a piece is added, the tag is made.
-use Rattle.cmac_ops.proofs.Common.{Bool, Holds, IsChained, List, [], aes_encrypt, ap, ap₂, arith, bit_xor, block_of_xor, blocks, chained, cmac, cond, doubled, drop, drop-append-le, drop_all, front_count, inl, inr, last_block, length, length-append, length-drop, number_block, refl, replicate, subkey1, subkey2, sym, take, take_all, xor_bytes, ℕ, ◌*◌, ◌++◌, ◌+◌, ◌-◌, ◌<◌, ◌^◌, ◌∙◌, ◌∷◌, ◌≡◌, ◌≤◌}
+use Rattle.cmac_ops.proofs.Common.{Bool, ChainHolds, IsChained, List, [], aes_encrypt, ap, ap₂, arith, bit_xor, block_of_xor, blocks, chained, cmac, cond, doubled, drop, drop-append-le, drop_all, front_count, inl, inr, last_block, length, length-append, length-drop, number_block, refl, replicate, subkey1, subkey2, sym, take, take_all, xor_bytes, ℕ, ◌*◌, ◌++◌, ◌+◌, ◌-◌, ◌<◌, ◌^◌, ◌∙◌, ◌∷◌, ◌≡◌, ◌≤◌}
 use Rattle.std.proofs.lemmas.Bool.{cases_eq, eq-eqb, ne_eqb}
 use Rattle.cmac_ops.specs.declared.chain.Chain.{Chain}
 use Rattle.crypto_specs.proofs.Blocks.{blocks-append}
@@ -35,14 +35,14 @@ put_in c d key m piece value used block h =
     }
 
 -- a piece of some bytes leaves some in the block
-pub put_some : (c d : Chain) (key m piece : List ℕ) → 0 < length piece → d.value ≡ c.value → d.used ≡ c.used + length piece → take d.used d.block ≡ take c.used c.block ++ piece → IsChained c key m → Holds d key (m ++ piece)
+pub put_some : (c d : Chain) (key m piece : List ℕ) → 0 < length piece → d.value ≡ c.value → d.used ≡ c.used + length piece → take d.used d.block ≡ take c.used c.block ++ piece → IsChained c key m → ChainHolds d key (m ++ piece)
 put_some c d key m piece some value used block h = record {
   chained = put_in c d key m piece value used block h;
   kept = λ none. absurd (omega arith);
 }
 
 -- the chain of the empty message
-pub started : (c : Chain) (key : List ℕ) → c.value ≡ 0 → c.used ≡ 0 → Holds c key []
+pub started : (c : Chain) (key : List ℕ) → c.value ≡ 0 → c.used ≡ 0 → ChainHolds c key []
 unfolding chained blocks number_block
 started c key value empty = record {
   chained = record {
@@ -55,7 +55,7 @@ started c key value empty = record {
 }
 
 -- the chained blocks are those before the last one
-count_is : (c : Chain) (key m : List ℕ) → c.used ≤ 16 → (h : Holds c key m) → h.chained.count ≡ front_count (length m)
+count_is : (c : Chain) (key m : List ℕ) → c.used ≤ 16 → (h : ChainHolds c key m) → h.chained.count ≡ front_count (length m)
 count_is c key m within h = elim (cases_eq c.used 0) [
   | inl none ↦
       let empty : length m ≡ 0 = ap length (h.kept none) in
@@ -86,7 +86,7 @@ module _ (e : List ℕ → List ℕ) (l subkey : ℕ) (l_fits : l < 2 ^ 128) (is
       ∙ sym (ap (λ (t : Bool). cond t (xor_bytes left (subkey1 e)) (xor_bytes (left ++ 0x80 ∷ replicate (15 - length left) 0) (subkey2 e))) (ne_eqb (length left) 16 (λ whole. absurd (omega arith))))
 
 -- the last block under its subkey makes the tag
-pub tag_of : (c : Chain) (key m tag : List ℕ) (last : ℕ) → c.used ≤ 16 → number_block last ≡ last_block (aes_encrypt key) (take c.used c.block) → tag ≡ aes_encrypt key (number_block (bit_xor c.value last)) → Holds c key m → tag ≡ cmac (aes_encrypt key) m
+pub tag_of : (c : Chain) (key m tag : List ℕ) (last : ℕ) → c.used ≤ 16 → number_block last ≡ last_block (aes_encrypt key) (take c.used c.block) → tag ≡ aes_encrypt key (number_block (bit_xor c.value last)) → ChainHolds c key m → tag ≡ cmac (aes_encrypt key) m
 unfolding cmac
 tag_of c key m tag last within is_last is_tag h =
     let e : List ℕ → List ℕ = aes_encrypt key in

@@ -11,12 +11,12 @@ pub record IsChained (c : Chain) (key message : List ℕ) : Type 0 where
   pub left : take c.used c.block ≡ drop (16 * count) message
 
 -- the last block is kept back: the block is empty for the empty message alone
-pub record Holds (c : Chain) (key message : List ℕ) : Type 0 where
+pub record ChainHolds (c : Chain) (key message : List ℕ) : Type 0 where
   pub chained : IsChained c key message
   pub kept : c.used ≡ 0 → message ≡ []
 
 -- nothing of a message is left
-pub record IsClear (c : Chain) : Type 0 where
+pub record IsWipedChain (c : Chain) : Type 0 where
   pub value : c.value ≡ 0
   pub block : c.block ≡ replicate 16 0
   pub used : c.used ≡ 0

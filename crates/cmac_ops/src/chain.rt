@@ -17,11 +17,11 @@ pub struct Chain {
 }
 
 impl Chain {
-    ghost use Rattle.cmac_ops.specs.Chains.{Holds, IsChained, IsClear};
+    ghost use Rattle.cmac_ops.specs.Chains.{ChainHolds, IsChained, IsWipedChain};
 
     /// The chain of the empty message, under any key.
     pub fn new() -> Chain
-        ensures { (key : List ℕ) → Holds result key [] }
+        ensures { (key : List ℕ) → ChainHolds result key [] }
     {
         Chain {
             value: 0,
@@ -60,7 +60,7 @@ impl Chain {
         requires some { 0 < length piece.now }
         ensures some { 0 < result }
         ensures within { result ≤ length piece.now }
-        ensures holds { (m : List ℕ) → Holds self.old key.now m → Holds self.new key.now (m ++ take result piece.now) }
+        ensures holds { (m : List ℕ) → ChainHolds self.old key.now m → ChainHolds self.new key.now (m ++ take result piece.now) }
     {
         self.make_room(key);
         let count = piece.len().min(16 - self.used);
@@ -71,7 +71,7 @@ impl Chain {
     /// Adds a piece to the message.
     pub fn update(&mut self, key: &AesKey, piece: &[u8])
         requires { IsKey key.now }
-        ensures { (m : List ℕ) → Holds self.old key.now m → Holds self.new key.now (m ++ piece.now) }
+        ensures { (m : List ℕ) → ChainHolds self.old key.now m → ChainHolds self.new key.now (m ++ piece.now) }
     {
         let mut done = 0;
         'turns: while done < piece.len() {
@@ -108,7 +108,7 @@ impl Chain {
     /// The tag of the message.
     pub fn tag(&self, key: &AesKey) -> [u8; 16]
         requires { IsKey key.now }
-        ensures { (m : List ℕ) → Holds self.now key.now m → result ≡ cmac (aes_encrypt key.now) m }
+        ensures { (m : List ℕ) → ChainHolds self.now key.now m → result ≡ cmac (aes_encrypt key.now) m }
     {
         let last = self.last_block(key);
         key.encrypt_number(self.value ^ last).to_be_bytes()
@@ -116,7 +116,7 @@ impl Chain {
 
     /// Clears the chain and the block.
     pub fn wipe(&mut self)
-        ensures { IsClear self.new }
+        ensures { IsWipedChain self.new }
     {
         self.value = 0;
         self.block = [0; 16];

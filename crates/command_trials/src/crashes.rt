@@ -2,7 +2,7 @@
 ghost use Rattle.std.specs.Prelude.{◌≡◌, length, IfOk};
 
 use crate::cells::cells_of;
-use crate::rooms::{Ran, Room, run};
+use crate::fixtures::{Fixture, Ran, run};
 use crate::texts::Text;
 use disk_face::MemoryDisk;
 use std::alloc::{AllocError, Global};
@@ -45,7 +45,11 @@ fn reopened<R: Threads + Wait + Sync>(
     alloc: Global,
     image: Vec<u8>,
 ) -> Result<Text, AllocError> {
-    let ran = run(rt, alloc, Room::sound(alloc, EXPORTS.to_vec(alloc)?, image))?;
+    let ran = run(
+        rt,
+        alloc,
+        Fixture::sound(alloc, EXPORTS.to_vec(alloc)?, image),
+    )?;
     let mut page = Text::new(alloc);
     page.add("after a crash: ")?;
     tell_end(&ran, &mut page)?;

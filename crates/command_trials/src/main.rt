@@ -5,8 +5,8 @@
 
 mod cells;
 mod crashes;
+mod fixtures;
 mod meeting;
-mod rooms;
 mod sections;
 mod sinks;
 mod texts;

@@ -3,7 +3,7 @@ ghost use Rattle.std.specs.Prelude.{◌≤◌, ℕ, All, length};
 ghost use Rattle.driver_dispatch.specs.Calls.{Lacks};
 ghost use Rattle.script_lang.specs.Prelude.{IsOfSession};
 
-use crate::rooms::{new_disk, without_keys};
+use crate::fixtures::{new_disk, without_keys};
 use crate::texts::Text;
 use admission::{Admission, Rules};
 use caller_service::{Closed, Service};

@@ -1,7 +1,7 @@
 //! Trials of sections: their runs, and what is printed of each.
 use crate::crashes::{crashes, tell_end};
+use crate::fixtures::{Fixture, Ran, run};
 use crate::meeting::try_meeting;
-use crate::rooms::{Ran, Room, run};
 use crate::sections::{Section, Trial, range};
 use crate::texts::Text;
 use disk_face::Fails;
@@ -28,7 +28,7 @@ fn store_left_over<R: Threads + Wait + Sync>(
     let made = run(
         rt,
         alloc,
-        Room::sound(alloc, script.to_vec(alloc)?, Vec::new(alloc)),
+        Fixture::sound(alloc, script.to_vec(alloc)?, Vec::new(alloc)),
     )?;
     let mut store = made.disk.bytes().to_vec(alloc)?;
     set(&mut store, 2240, 0);
@@ -44,36 +44,36 @@ fn behind_comment(alloc: Global, script: &[u8]) -> Result<Vec<u8>, AllocError> {
     Ok(long)
 }
 
-// The room of the run of a section for one of its numbers.
+// The fixture of the run of a section for one of its numbers.
 fn room_of<R: Threads + Wait + Sync>(
     rt: &R,
     alloc: Global,
     section: &Section,
     number: u64,
-) -> Result<Room, AllocError> {
+) -> Result<Fixture, AllocError> {
     let script = section.script.bytes();
-    let mut room = Room::sound(alloc, script.to_vec(alloc)?, Vec::new(alloc));
-    room.element = section.element.to_vec(alloc)?;
+    let mut fixture = Fixture::sound(alloc, script.to_vec(alloc)?, Vec::new(alloc));
+    fixture.element = section.element.to_vec(alloc)?;
     match section.trial {
-        Trial::DiskFrom => room.disk = Fails::From(number),
-        Trial::DiskOnce => room.disk = Fails::Listed(range(alloc, number, number)?),
+        Trial::DiskFrom => fixture.disk = Fails::From(number),
+        Trial::DiskOnce => fixture.disk = Fails::Listed(range(alloc, number, number)?),
         Trial::DiskThrice => {
-            room.disk = Fails::Listed(range(alloc, number, number.saturating_add(2))?);
+            fixture.disk = Fails::Listed(range(alloc, number, number.saturating_add(2))?);
         }
-        Trial::DiskListed => room.disk = Fails::Listed(section.numbers.to_vec(alloc)?),
+        Trial::DiskListed => fixture.disk = Fails::Listed(section.numbers.to_vec(alloc)?),
         Trial::LeftOver => {
-            room.store = store_left_over(rt, alloc, script)?;
-            room.script = Vec::new(alloc);
-            room.disk = Fails::From(number);
+            fixture.store = store_left_over(rt, alloc, script)?;
+            fixture.script = Vec::new(alloc);
+            fixture.disk = Fails::From(number);
         }
         Trial::Read => {
-            room.script = behind_comment(alloc, script)?;
-            room.reads = range(alloc, number, number)?;
+            fixture.script = behind_comment(alloc, script)?;
+            fixture.reads = range(alloc, number, number)?;
         }
-        Trial::Write => room.write = number,
+        Trial::Write => fixture.write = number,
         Trial::Meet => {}
     }
-    Ok(room)
+    Ok(fixture)
 }
 
 // Prints how a run ended, what it left in the cells, how much of its replies was taken, and that.

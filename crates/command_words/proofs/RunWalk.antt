@@ -2,7 +2,7 @@
 use Rattle.std.proofs.Common.{Bool, List, None, Option, Some, [], bytes_eq, codes, false, fold, option_and_then, refl, subst, sym, true, ℕ, ◌∙◌, ◌∷◌, ◌≡◌}
 use Rattle.command_words.proofs.Common.{Held, Row, Rule, Rules, RunOption, Seed, Shape, Texts, Waiting, Walk, Workers, after_words, arg_by_id, arg_by_long, idle, if_new, is_of, new_shape, none-some, option_id, option_in, reacted, same_Some, settle_passes, settled, turn_passes, use_passes, walk_passes, walked, with_option}
 use Rattle.clap.specs.Walk.{option as for_option}
-use Rattle.command_words.specs.Reading.{settled as settled_state}
+use Rattle.command_words.specs.Reading.{settled_texts as settled_state}
 use Rattle.command_words.proofs.Hyphens.{IsBare, AreBare, no_option}
 use Rattle.command_words.proofs.OptionWords.{long_of_option, not_dashes}
 use Rattle.command_words.proofs.Rows.{option_built, HasValues, no_row, has_next, same_id}

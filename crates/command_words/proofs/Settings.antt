@@ -7,7 +7,7 @@ use Rattle.std.proofs.lemmas.List.{at_drop_all}
 use Rattle.std.proofs.lemmas.List.Sums.{sum_by-append}
 use Rattle.std.proofs.lemmas.Bool.{and_left, and_right}
 use Rattle.std.proofs.lemmas.Bool.Decides.{nat_tests}
-use Rattle.command_words.specs.Reading.{settled}
+use Rattle.command_words.specs.Reading.{settled_texts}
 use Rattle.command_words.specs.declared.options.Reading.{Reading}
 
 -- settings in front of others
@@ -131,7 +131,7 @@ Reads words waiting = (texts : Texts) (done : List Setting) → Match texts done
 
 with_value : (words : List (List ℕ)) (texts : Texts) (done : List Setting) (o : RunOption) (value : List ℕ) (old : Option (List ℕ)) → text_at texts o ≡ old →
     Reads words None → Match texts done →
-    option_and_then (λ next. after_words next words) (settled (if_new old (put texts o value)))
+    option_and_then (λ next. after_words next words) (settled_texts (if_new old (put texts o value)))
     ≡ option_and_then texts_of (behind done (option_map (λ others. (o, value) ∷ others) (options_in None words)))
 with_value words texts done o value None e reads h =
     reads (put texts o value) (done ++ (o, value) ∷ []) (match_next texts done o value e h)
@@ -140,7 +140,7 @@ with_value words texts done o value (Some text) e reads h =
     ends_repeated done o value text (options_in None words) (subst (λ v. Stands done o v) e (h o))
 
 reads_value : (words : List (List ℕ)) (texts : Texts) (done : List Setting) (o : RunOption) (value : List ℕ) → Reads words None → Match texts done →
-    option_and_then (λ next. after_words next words) (settled (with_option texts o value))
+    option_and_then (λ next. after_words next words) (settled_texts (with_option texts o value))
     ≡ option_and_then texts_of (behind done (option_map (λ others. (o, value) ∷ others) (options_in None words)))
 reads_value words texts done o value reads h = rw (with_is texts o value) (with_value words texts done o value (text_at texts o) refl reads h)
 
@@ -153,7 +153,7 @@ reads (word ∷ words) None texts done h = elim (option_in word) as (λ (found :
     option_and_then (λ next. after_words next words) (elim found [
       | None ↦ None
       | Some (option, None) ↦ Some (texts, Some option)
-      | Some (option, Some value) ↦ settled (with_option texts option value)
+      | Some (option, Some value) ↦ settled_texts (with_option texts option value)
     ])
     ≡ option_and_then texts_of (behind done (elim found [
       | None ↦ None

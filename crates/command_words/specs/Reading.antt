@@ -23,16 +23,16 @@ with_option texts Rules value = if_new texts.rules (record texts { rules = Some 
 abbrev pub State : Type 0
 State = Texts × Option RunOption
 
-abbrev pub settled : Option Texts → Option State
-settled texts = option_map (λ t. (t, None)) texts
+abbrev pub settled_texts : Option Texts → Option State
+settled_texts texts = option_map (λ t. (t, None)) texts
 
 -- a further word
 abbrev pub after_word : State → List ℕ → Option State
-after_word (texts, Some option) word = settled (with_option texts option word)
+after_word (texts, Some option) word = settled_texts (with_option texts option word)
 after_word (texts, None) word = elim (option_in word) [
   | None ↦ None
   | Some (option, None) ↦ Some (texts, Some option)
-  | Some (option, Some value) ↦ settled (with_option texts option value)
+  | Some (option, Some value) ↦ settled_texts (with_option texts option value)
 ]
 
 -- the end of the words

@@ -14,7 +14,7 @@ pub use Rattle.crypto_specs.specs.Ghash.{block_product, reduction}
 unfoldable pub use Rattle.crypto_specs.specs.Ghash.{ghash_from, times_x}
 pub use Rattle.crypto_specs.specs.Hkdf.{hash_length}
 unfoldable pub use Rattle.crypto_specs.specs.Hkdf.{expand, expand_block, expand_blocks, extract}
-pub use Rattle.crypto_specs.specs.Hmac.{filled, xored_with}
+pub use Rattle.crypto_specs.specs.Hmac.{zero_padded, xored_with}
 unfoldable pub use Rattle.crypto_specs.specs.Hmac.{hmac, key_block}
 pub use Rattle.crypto_specs.specs.KeyExpansion.{key_words, next_word, rot_word, round_constant, round_count, schedule_core, sub_word, word_at, xor_words}
 unfoldable pub use Rattle.crypto_specs.specs.KeyExpansion.{expanded, key_schedule, power_of_x}

@@ -11,11 +11,11 @@ abbrev text_2 : List ℕ
 text_2 = 0x03 ∷ 0x88 ∷ 0xda ∷ 0xce ∷ 0x60 ∷ 0xb6 ∷ 0xa3 ∷ 0x92 ∷ 0xf3 ∷ 0x28 ∷ 0xc2 ∷ 0xb9 ∷ 0x71 ∷ 0xb2 ∷ 0xfe ∷ 0x78 ∷ []
 
 text_of_case_2 : gcm_text (aes_encrypt zeros) (replicate 12 0) zeros ≡ text_2
-unfolding sum_of_shifts power_of_x by_table rounds_by expanded_by schedule_by encrypt_by table_encrypt product.sum_of_shifts times_x ghash_from blocks block_number number_block numbers_of hash_subkey ghash_of initial_counter_block increased gcm_stream gcm_text
+unfolding sum_of_shifts power_of_x by_table rounds_by expanded_by schedule_by encrypt_by table_encrypt product.sum_of_multiples times_x ghash_from blocks block_number number_block numbers_of hash_subkey ghash_of initial_counter_block increased gcm_stream gcm_text
 text_of_case_2 = ap (λ (e : List ℕ → List ℕ). gcm_text e (replicate 12 0) zeros) (encrypts_by_table zeros) ∙ refl
 
 tag_of_case_2 : gcm_tag (aes_encrypt zeros) 16 (replicate 12 0) [] text_2 ≡ 0xab ∷ 0x6e ∷ 0x47 ∷ 0xd4 ∷ 0x2c ∷ 0xec ∷ 0x13 ∷ 0xbd ∷ 0xf5 ∷ 0x3a ∷ 0x67 ∷ 0xb2 ∷ 0x12 ∷ 0x57 ∷ 0xbd ∷ 0xdf ∷ []
-unfolding sum_of_shifts power_of_x by_table rounds_by expanded_by schedule_by encrypt_by table_encrypt product.sum_of_shifts times_x ghash_from blocks block_number number_block numbers_of hash_subkey ghash_of initial_counter_block increased gcm_stream gcm_tag
+unfolding sum_of_shifts power_of_x by_table rounds_by expanded_by schedule_by encrypt_by table_encrypt product.sum_of_multiples times_x ghash_from blocks block_number number_block numbers_of hash_subkey ghash_of initial_counter_block increased gcm_stream gcm_tag
 tag_of_case_2 = ap (λ (e : List ℕ → List ℕ). gcm_tag e 16 (replicate 12 0) [] text_2) (encrypts_by_table zeros) ∙ refl
 
 abbrev key : List ℕ
@@ -34,9 +34,9 @@ abbrev text_5 : List ℕ
 text_5 = 0x61 ∷ 0x35 ∷ 0x3b ∷ 0x4c ∷ 0x28 ∷ 0x06 ∷ 0x93 ∷ 0x4a ∷ 0x77 ∷ 0x7f ∷ 0xf5 ∷ 0x1f ∷ 0xa2 ∷ 0x2a ∷ 0x47 ∷ 0x55 ∷ 0x69 ∷ 0x9b ∷ 0x2a ∷ 0x71 ∷ 0x4f ∷ 0xcd ∷ 0xc6 ∷ 0xf8 ∷ 0x37 ∷ 0x66 ∷ 0xe5 ∷ 0xf9 ∷ 0x7b ∷ 0x6c ∷ 0x74 ∷ 0x23 ∷ 0x73 ∷ 0x80 ∷ 0x69 ∷ 0x00 ∷ 0xe4 ∷ 0x9f ∷ 0x24 ∷ 0xb2 ∷ 0x2b ∷ 0x09 ∷ 0x75 ∷ 0x44 ∷ 0xd4 ∷ 0x89 ∷ 0x6b ∷ 0x42 ∷ 0x49 ∷ 0x89 ∷ 0xb5 ∷ 0xe1 ∷ 0xeb ∷ 0xac ∷ 0x0f ∷ 0x07 ∷ 0xc2 ∷ 0x3f ∷ 0x45 ∷ 0x98 ∷ []
 
 text_of_case_5 : gcm_text (aes_encrypt key) nonce plain_text ≡ text_5
-unfolding sum_of_shifts power_of_x by_table rounds_by expanded_by schedule_by encrypt_by table_encrypt product.sum_of_shifts times_x ghash_from blocks block_number number_block numbers_of hash_subkey ghash_of initial_counter_block increased gcm_stream gcm_text
+unfolding sum_of_shifts power_of_x by_table rounds_by expanded_by schedule_by encrypt_by table_encrypt product.sum_of_multiples times_x ghash_from blocks block_number number_block numbers_of hash_subkey ghash_of initial_counter_block increased gcm_stream gcm_text
 text_of_case_5 = ap (λ (e : List ℕ → List ℕ). gcm_text e nonce plain_text) (encrypts_by_table key) ∙ refl
 
 tag_of_case_5 : gcm_tag (aes_encrypt key) 16 nonce associated_data text_5 ≡ 0x36 ∷ 0x12 ∷ 0xd2 ∷ 0xe7 ∷ 0x9e ∷ 0x3b ∷ 0x07 ∷ 0x85 ∷ 0x56 ∷ 0x1b ∷ 0xe1 ∷ 0x4a ∷ 0xac ∷ 0xa2 ∷ 0xfc ∷ 0xcb ∷ []
-unfolding sum_of_shifts power_of_x by_table rounds_by expanded_by schedule_by encrypt_by table_encrypt product.sum_of_shifts times_x ghash_from blocks block_number number_block numbers_of hash_subkey ghash_of initial_counter_block increased gcm_stream gcm_tag
+unfolding sum_of_shifts power_of_x by_table rounds_by expanded_by schedule_by encrypt_by table_encrypt product.sum_of_multiples times_x ghash_from blocks block_number number_block numbers_of hash_subkey ghash_of initial_counter_block increased gcm_stream gcm_tag
 tag_of_case_5 = ap (λ (e : List ℕ → List ℕ). gcm_tag e 16 nonce associated_data text_5) (encrypts_by_table key) ∙ refl

@@ -1,6 +1,6 @@
 -- HKDF: the absent salt.
 use Rattle.std.proofs.Common.{Bool, List, [], ap, arith, cond, length, replicate, sym, ℕ, ◌++◌, ◌-◌, ◌∙◌, ◌≡◌, ◌≤◌}
-use Rattle.crypto_specs.proofs.Common.{AbsentSaltIsEmptyKey, extract, filled, hash_length, hmac, key_block, length-replicate, replicate-append-replicate, xored_with}
+use Rattle.crypto_specs.proofs.Common.{AbsentSaltIsEmptyKey, extract, zero_padded, hash_length, hmac, key_block, length-replicate, replicate-append-replicate, xored_with}
 use Rattle.std.proofs.lemmas.Bool.{le-ltb}
 
 -- a key of zeros that isn't longer than a block is the block of zeros
@@ -9,7 +9,7 @@ unfolding key_block
 zeros-key_block hash n k h =
     let key : List ℕ = replicate k 0 in
     let long : length key ≡ k = length-replicate k 0 in
-    ap (λ (b : Bool). filled n (cond b (hash key) key)) (le-ltb n (length key) (omega arith))
+    ap (λ (b : Bool). zero_padded n (cond b (hash key) key)) (le-ltb n (length key) (omega arith))
     ∙ replicate-append-replicate k (n - length key) 0 ∙ ap (λ (m : ℕ). replicate m 0) (omega arith)
 
 hmac_of_block : (hash : List ℕ → List ℕ) (n : ℕ) (one other message : List ℕ) → key_block hash n one ≡ key_block hash n other → hmac hash n one message ≡ hmac hash n other message

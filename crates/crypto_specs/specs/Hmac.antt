@@ -6,11 +6,11 @@ abbrev pub short_key : (List ℕ → List ℕ) → ℕ → List ℕ → List ℕ
 short_key hash n key = cond (nat_lt n (length key)) (hash key) key
 
 -- a key filled with zeros to n bytes (step 1)
-abbrev pub filled : ℕ → List ℕ → List ℕ
-filled n key = key ++ replicate (n - length key) 0
+abbrev pub zero_padded : ℕ → List ℕ → List ℕ
+zero_padded n key = key ++ replicate (n - length key) 0
 
 unfoldable pub key_block : (List ℕ → List ℕ) → ℕ → List ℕ → List ℕ
-key_block hash n key = filled n (short_key hash n key)
+key_block hash n key = zero_padded n (short_key hash n key)
 
 -- each byte xored with c
 abbrev pub xored_with : ℕ → List ℕ → List ℕ

@@ -19,7 +19,7 @@ pub use Rattle.crypto_specs.specs.Ghash.{block_product, reduction}
 unfoldable pub use Rattle.crypto_specs.specs.Ghash.{ghash_from, times_x}
 pub use Rattle.crypto_specs.specs.Gcm.{length_block}
 unfoldable pub use Rattle.crypto_specs.specs.Gcm.{gcm_stream, gcm_tag, gcm_text, ghash_of, hash_subkey, increased, initial_counter_block, numbers_of}
-pub use Rattle.crypto_specs.specs.Hmac.{filled, inner_pad, outer_pad, xored_with}
+pub use Rattle.crypto_specs.specs.Hmac.{zero_padded, inner_pad, outer_pad, xored_with}
 unfoldable pub use Rattle.crypto_specs.specs.Hmac.{hmac, key_block}
 pub use Rattle.crypto_specs.specs.Hkdf.{hash_length}
 unfoldable pub use Rattle.crypto_specs.specs.Hkdf.{expand, expand_block, expand_blocks, extract}

@@ -2,7 +2,7 @@
 pub use Rattle.crypto_specs.specs.Prelude.{hash_length}
 unfoldable pub use Rattle.crypto_specs.specs.Prelude.{expand, expand_block, expand_blocks, extract, pbkdf2, pbkdf2_block, pbkdf2_blocks}
 pub use Rattle.derivation_states.specs.Inputs.{HoldsInputs}
-pub use Rattle.derivation_states.specs.Outputs.{HoldsOutput, IsReady, IsRunning}
+pub use Rattle.derivation_states.specs.Outputs.{HoldsOutput, HasSecret, IsRunning}
 pub use Rattle.derivation_states.specs.Streams.{block_at, hmac_key, work_block_length, work_hash}
 pub use Rattle.derivation_states.specs.declared.inputs.Inputs.{Inputs}
 pub use Rattle.hash_ops.specs.Hashes.{block_length, digest_length, hash_of}

@@ -1,13 +1,13 @@
 -- The current block's next byte.
 use Rattle.std.proofs.Common.{List, None, Option, Some, [], ap, ap₂, arith, get_or, is_some, length, refl, slice_index_or, suc, sym, take, true, zero, ℕ, ◌*◌, ◌++◌, ◌+◌, ◌-◌, ◌<◌, ◌∙◌, ◌∷◌, ◌≡◌, ◌≤◌}
-use Rattle.derivation_states.proofs.Common.{DerivationWork, HoldsInputs, Inputs, IsReady, IsRunning, KeyDerivation, NamesDerivation, block_at, digest_length, next_derived, number_or_zero, without}
+use Rattle.derivation_states.proofs.Common.{DerivationWork, HoldsInputs, Inputs, HasSecret, IsRunning, KeyDerivation, NamesDerivation, block_at, digest_length, next_derived, number_or_zero, without}
 use Rattle.std.specs.Option.{ForSome}
 use Rattle.std.proofs.Math.Nat.{mul-suc}
 use Rattle.std.proofs.lemmas.List.{get_or-take, nil_from_length}
 use Rattle.hash_ops.specs.declared.Hash.{Hash}
 use Rattle.hash_ops.specs.declared.Hash.TheVariants.{Sha224}
 use Rattle.hash_ops.proofs.Digests.{length-hash_of}
-use Rattle.derivation_states.specs.declared.output.Output.{Output}
+use Rattle.derivation_states.specs.declared.output.OutputState.{OutputState}
 use Rattle.derivation_states.proofs.Blocks.{HasBlocks}
 use Rattle.derivation_states.proofs.Derived.{next_byte, next_derived_add, length-next_derived}
 
@@ -27,7 +27,7 @@ has_blocks k i w kdf inputs secret = record {
 }
 
 -- a block that has bytes left isn't block 0, and its next one is the next of all
-placed : (h : ℕ) (o : Output) (w : DerivationWork) → digest_length o.kdf.hash ≡ h → HasBlocks w h → IsRunning o w → o.used < o.length → (n : ℕ) → o.number ≡ n → next_derived w 1 ≡ slice_index_or o.block o.used 0 ∷ []
+placed : (h : ℕ) (o : OutputState) (w : DerivationWork) → digest_length o.kdf.hash ≡ h → HasBlocks w h → IsRunning o w → o.used < o.length → (n : ℕ) → o.number ≡ n → next_derived w 1 ≡ slice_index_or o.block o.used 0 ∷ []
 placed h o w eh blocks running left zero e = absurd (omega (arith, running.none e))
 placed h o w eh blocks running left (suc i) e =
     let whole : o.length ≡ h = running.whole (omega arith) ∙ eh in
@@ -36,10 +36,10 @@ placed h o w eh blocks running left (suc i) e =
     next_byte w h blocks i o.used (omega (arith, running.place)) (omega arith)
     ∙ ap (λ (b : ℕ). b ∷ []) (sym (ap (λ (l : List ℕ). get_or l o.used 0) block) ∙ get_or-take o.length o.block o.used 0 left)
 
-pub byte_taken : (i : Inputs) (o : Output) (w : DerivationWork) → HoldsInputs i w → IsRunning o w → is_some w.secret ≡ true → o.used < o.length → next_derived w 1 ≡ slice_index_or o.block o.used 0 ∷ []
+pub byte_taken : (i : Inputs) (o : OutputState) (w : DerivationWork) → HoldsInputs i w → IsRunning o w → is_some w.secret ≡ true → o.used < o.length → next_derived w 1 ≡ slice_index_or o.block o.used 0 ∷ []
 byte_taken i o w inputs running secret left = placed (digest_length o.kdf.hash) o w refl (has_blocks o.kdf i w running.kdf inputs secret) running left o.number refl
 
-module _ (i : Inputs) (o : Output) (w : DerivationWork) (r : IsReady i o w) where
+module _ (i : Inputs) (o : OutputState) (w : DerivationWork) (r : HasSecret i o w) where
   pub ready_blocks : HasBlocks w (digest_length o.kdf.hash)
   ready_blocks = has_blocks o.kdf i w r.output.running.kdf r.inputs r.secret
 

@@ -13,8 +13,8 @@ abbrev pub derivation_setup : Operation DerivationWork → ℕ → After Derivat
 derivation_setup operation alg = set_up operation (first_row (class_rows Derivation alg)) (derivation_work alg)
 
 -- output_key of the derivation alone: the bytes of the key that is to be created
-abbrev pub derived_key : DerivationWork → Attributes → After DerivationWork
-derived_key w a =
+abbrev pub derived_key_bytes : DerivationWork → Attributes → After DerivationWork
+derived_key_bytes w a =
     let n : ℕ = stated_bytes a in
     unless_failed (first_row (output_key_rows w a)) (taken_from w n (given (next_derived w n)))
 

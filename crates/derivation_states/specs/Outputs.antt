@@ -6,9 +6,9 @@ use Rattle.derivation_states.specs.Streams.{block_at}
 use Rattle.key_policy.specs.Names.{NamesDerivation}
 use Rattle.derivation_states.specs.Inputs.{HoldsInputs}
 use Rattle.derivation_states.specs.declared.inputs.Inputs.{Inputs}
-use Rattle.derivation_states.specs.declared.output.Output.{Output}
+use Rattle.derivation_states.specs.declared.output.OutputState.{OutputState}
 
-pub record IsClearOutput (o : Output) : Type 0 where
+pub record IsClearOutput (o : OutputState) : Type 0 where
   pub capacity : o.capacity ≡ 0
   pub number : o.number ≡ 0
   pub used : o.used ≡ 0
@@ -16,7 +16,7 @@ pub record IsClearOutput (o : Output) : Type 0 where
   pub block : o.block ≡ replicate 64 0
 
 -- the current block, which is whole, and how many of its bytes were taken; block 0 has none
-pub record IsRunning (o : Output) (w : DerivationWork) : Type 0 where
+pub record IsRunning (o : OutputState) (w : DerivationWork) : Type 0 where
   pub kdf : NamesDerivation w.alg o.kdf
   pub capacity : o.capacity ≡ w.capacity
   pub place : w.taken + o.length ≡ digest_length o.kdf.hash * o.number + o.used
@@ -25,13 +25,13 @@ pub record IsRunning (o : Output) (w : DerivationWork) : Type 0 where
   pub whole : 1 ≤ o.number → o.length ≡ digest_length o.kdf.hash
 
 -- there is no current block before the first byte is taken, and none is taken before the secret is there
-pub record HoldsOutput (o : Output) (w : DerivationWork) : Type 0 where
+pub record HoldsOutput (o : OutputState) (w : DerivationWork) : Type 0 where
   pub running : IsRunning o w
   pub fresh : w.taken ≡ 0 → o.number ≡ 0
   pub begun : is_some w.secret ≡ false → w.taken ≡ 0
 
 -- these are the inputs and the output of a derivation that has its secret, and so can give bytes
-pub record IsReady (i : Inputs) (o : Output) (w : DerivationWork) : Type 0 where
+pub record HasSecret (i : Inputs) (o : OutputState) (w : DerivationWork) : Type 0 where
   pub inputs : HoldsInputs i w
   pub output : HoldsOutput o w
   pub secret : is_some w.secret ≡ true

@@ -1,5 +1,5 @@
 -- What the state of a derivation stands for.
-use Rattle.multipart.specs.States.{IsOperation}
+use Rattle.multipart.specs.States.{StandsForOperation}
 use Rattle.store_model.specs.Prelude.{Operation, DerivationWork}
 use Rattle.derivation_states.specs.Inputs.{IsClearInputs, HoldsInputs}
 use Rattle.derivation_states.specs.Outputs.{IsClearOutput, HoldsOutput}
@@ -19,4 +19,4 @@ abbrev pub IsClearDerivation : DerivationState → Type 0
 IsClearDerivation s = IsClearRunningDerivation s.state.work
 
 abbrev pub IsDerivationOperation : DerivationState → Operation DerivationWork → Type 0
-IsDerivationOperation s op = IsOperation IsClearRunningDerivation HoldsRunning s.state op
+IsDerivationOperation s op = StandsForOperation IsClearRunningDerivation HoldsRunning s.state op

@@ -12,7 +12,7 @@ ghost use Rattle.multipart.specs.declared.Phase.TheVariants as phase;
 ghost use Rattle.derivation_states.specs.States.{HoldsRunning, IsClearRunningDerivation};
 
 use crate::inputs::Inputs;
-use crate::output::Output;
+use crate::output::OutputState;
 use key_attributes::Attributes;
 use multipart::{Stepped, Steps, Work};
 use psa_status::{Memory, Status};
@@ -23,7 +23,7 @@ use std::alloc::Global;
 #[derive(Drop)]
 pub(crate) struct RunningDerivation {
     pub(crate) inputs: Inputs,
-    pub(crate) output: Output,
+    pub(crate) output: OutputState,
 }
 
 impl Work for RunningDerivation {
@@ -88,7 +88,7 @@ impl RunningDerivation {
     {
         Ok(RunningDerivation {
             inputs: Inputs::new(alloc)?,
-            output: Output::new(),
+            output: OutputState::new(),
         })
     }
 

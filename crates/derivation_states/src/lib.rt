@@ -34,7 +34,7 @@ pub struct DerivationState {
 }
 
 impl DerivationState {
-    ghost use Rattle.derivation_states.specs.KeySteps.{derivation_setup, derived_key, key_given, key_step_refusal, output_key_refusal};
+    ghost use Rattle.derivation_states.specs.KeySteps.{derivation_setup, derived_key_bytes, key_given, key_step_refusal, output_key_refusal};
 
     /// An inactive derivation; `Memory` where there is no room for its buffers.
     pub fn new(alloc: Global) -> Result<DerivationState, Memory>
@@ -146,9 +146,9 @@ impl DerivationState {
         out: &mut [u8; KEY_ROOM],
     ) -> Result<usize, Status>
         ensures state { (op : Operation DerivationWork) → IsDerivationOperation self.old op
-            → IsDerivationOperation self.new (on_active op (λ w. derived_key w attributes.now)).operation }
+            → IsDerivationOperation self.new (on_active op (λ w. derived_key_bytes w attributes.now)).operation }
         ensures key { (op : Operation DerivationWork) → IsDerivationOperation self.old op
-            → AnswersFront 1025 result out.old out.new (on_active op (λ w. derived_key w attributes.now)).reply }
+            → AnswersFront 1025 result out.old out.new (on_active op (λ w. derived_key_bytes w attributes.now)).reply }
         ensures length { IfOk result (λ n. n ≡ min (attributes.now.bits / 8) 1025) }
     {
         self.state.phase.check_active()?;

@@ -22,7 +22,7 @@ use psa_status::Status;
 /// from: the first `length` bytes of `block`, of which `used` are taken. Its number is 0, and its length too, before
 /// the first byte.
 #[derive(Drop)]
-pub struct Output {
+pub struct OutputState {
     pub kdf: KeyDerivation,
     pub capacity: u64,
     number: u32,
@@ -34,14 +34,14 @@ pub struct Output {
     ghost in_blocks: { capacity + digest_length kdf.hash * number + used ≤ digest_length kdf.hash * block_limit kdf.scheme + length },
 }
 
-impl Output {
-    ghost use Rattle.derivation_states.specs.Outputs.{HoldsOutput, IsClearOutput, IsReady, IsRunning};
+impl OutputState {
+    ghost use Rattle.derivation_states.specs.Outputs.{HoldsOutput, IsClearOutput, HasSecret, IsRunning};
 
     /// No bytes.
-    pub fn new() -> Output
+    pub fn new() -> OutputState
         ensures { IsClearOutput result }
     {
-        Output {
+        OutputState {
             kdf: KeyDerivation {
                 scheme: Scheme::Hkdf,
                 hash: Hash::Sha256,
@@ -58,7 +58,7 @@ impl Output {
     pub fn wipe(&mut self)
         ensures { IsClearOutput self.new }
     {
-        *self = Output::new();
+        *self = OutputState::new();
     }
 
     /// Makes it all bytes that a derivation can give.
@@ -157,7 +157,7 @@ impl Output {
         requires { 0 < self.old.capacity }
         ensures capacity { self.new.capacity + 1 ≡ self.old.capacity }
         ensures ready { (w : DerivationWork) → HoldsInputs inputs.now w → IsRunning self.old w
-            → is_some w.secret ≡ true → IsReady inputs.now self.new (without w 1) }
+            → is_some w.secret ≡ true → HasSecret inputs.now self.new (without w 1) }
         ensures byte { (w : DerivationWork) → HoldsInputs inputs.now w → IsRunning self.old w
             → is_some w.secret ≡ true → next_derived w 1 ≡ result ∷ [] }
     {
@@ -172,8 +172,8 @@ impl Output {
     pub fn fill(&mut self, inputs: &Inputs, out: &mut [u8])
         requires { length out.old ≤ self.old.capacity }
         ensures capacity { self.new.capacity + length out.old ≡ self.old.capacity }
-        ensures holds { (w : DerivationWork) → IsReady inputs.now self.old w → IsReady inputs.now self.new (without w (length out.old)) }
-        ensures bytes { (w : DerivationWork) → IsReady inputs.now self.old w → out.new ≡ next_derived w (length out.old) }
+        ensures holds { (w : DerivationWork) → HasSecret inputs.now self.old w → HasSecret inputs.now self.new (without w (length out.old)) }
+        ensures bytes { (w : DerivationWork) → HasSecret inputs.now self.old w → out.new ≡ next_derived w (length out.old) }
     {
         'bytes: for i in 0..out.len() {
             out[i] = self.take_byte(inputs);
@@ -183,7 +183,7 @@ impl Output {
     // Takes bytes that nobody sees.
     fn skip(&mut self, inputs: &Inputs, count: usize)
         requires { count ≤ self.old.capacity }
-        ensures { (w : DerivationWork) → IsReady inputs.now self.old w → IsReady inputs.now self.new (without w count) }
+        ensures { (w : DerivationWork) → HasSecret inputs.now self.old w → HasSecret inputs.now self.new (without w count) }
     {
         'bytes: for _ in 0..count {
             self.take_byte(inputs);
@@ -195,9 +195,9 @@ impl Output {
     pub fn fill_front(&mut self, inputs: &Inputs, count: usize, out: &mut [u8; KEY_ROOM]) -> usize
         requires { count ≤ self.old.capacity }
         ensures written { result ≡ min count 1025 }
-        ensures holds { (w : DerivationWork) → IsReady inputs.now self.old w → IsReady inputs.now self.new (without w count) }
-        ensures length { (w : DerivationWork) → IsReady inputs.now self.old w → length (next_derived w count) ≡ count }
-        ensures front { (w : DerivationWork) → IsReady inputs.now self.old w → take result out.new ≡ take result (next_derived w count) }
+        ensures holds { (w : DerivationWork) → HasSecret inputs.now self.old w → HasSecret inputs.now self.new (without w count) }
+        ensures length { (w : DerivationWork) → HasSecret inputs.now self.old w → length (next_derived w count) ≡ count }
+        ensures front { (w : DerivationWork) → HasSecret inputs.now self.old w → take result out.new ≡ take result (next_derived w count) }
         ensures rest { drop result out.new ≡ drop result out.old }
     {
         let written = count.min(KEY_ROOM);
@@ -209,8 +209,8 @@ impl Output {
     /// Takes as many bytes as were expected, and answers whether they are those.
     pub fn gives(&mut self, inputs: &Inputs, expected: &[u8]) -> bool
         requires { length expected.now ≤ self.old.capacity }
-        ensures holds { (w : DerivationWork) → IsReady inputs.now self.old w → IsReady inputs.now self.new (without w (length expected.now)) }
-        ensures same { (w : DerivationWork) → IsReady inputs.now self.old w → result ≡ bytes_eq expected.now (next_derived w (length expected.now)) }
+        ensures holds { (w : DerivationWork) → HasSecret inputs.now self.old w → HasSecret inputs.now self.new (without w (length expected.now)) }
+        ensures same { (w : DerivationWork) → HasSecret inputs.now self.old w → result ≡ bytes_eq expected.now (next_derived w (length expected.now)) }
     {
         let mut same = true;
         'bytes: for i in 0..expected.len() {

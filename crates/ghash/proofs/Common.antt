@@ -1,8 +1,8 @@
 -- What several proofs of this crate cite of its words, and of other crates'.
-unfoldable pub use Rattle.crypto_specs.specs.Ghash.{sum_of_shifts}
+unfoldable pub use Rattle.crypto_specs.specs.Ghash.{sum_of_multiples}
 pub use Rattle.crypto_specs.specs.Prelude.{reduction}
 unfoldable pub use Rattle.crypto_specs.specs.Prelude.{times_x}
-pub use Rattle.ghash.specs.Products.{joined, times_x4}
+pub use Rattle.ghash.specs.Products.{joined_halves, times_x4}
 unfoldable pub use Rattle.ghash.specs.Products.{products_of, shifted}
 pub use Rattle.ghash.specs.declared.groups.TheConstants.{REDUCTIONS}
 pub use Rattle.std.proofs.Common.{Bool, List, [], ap, ap₂, arith, bit_xor, cond, eqb, false, map, refl, slice_index, suc, sym, true, zero, ℕ, ◌%◌, ◌*◌, ◌+◌, ◌-◌, ◌/◌, ◌<◌, ◌^◌, ◌∙◌, ◌∷◌, ◌≡◌}

@@ -1,9 +1,9 @@
 -- The product of blocks by x^4 in two halves, and the bytes of a block.
-use Rattle.ghash.proofs.Common.{REDUCTIONS, ap, ap₂, arith, bit_xor, joined, shr-shr, slice_index, suc, sym, times_x4, xor_block, xor_comm, xor_shifted, xor_zero_r, zero, ℕ, ◌%◌, ◌*◌, ◌+◌, ◌/◌, ◌<◌, ◌^◌, ◌∙◌, ◌≡◌}
+use Rattle.ghash.proofs.Common.{REDUCTIONS, ap, ap₂, arith, bit_xor, joined_halves, shr-shr, slice_index, suc, sym, times_x4, xor_block, xor_comm, xor_shifted, xor_zero_r, zero, ℕ, ◌%◌, ◌*◌, ◌+◌, ◌/◌, ◌<◌, ◌^◌, ◌∙◌, ◌≡◌}
 use Rattle.ghash.proofs.GroupProducts.{at_top, shifted_four}
 
 -- the sum of joined halves
-xor_joined : (a b c d : ℕ) → b < 2 ^ 64 → d < 2 ^ 64 → bit_xor (joined a b) (joined c d) ≡ joined (bit_xor a c) (bit_xor b d)
+xor_joined : (a b c d : ℕ) → b < 2 ^ 64 → d < 2 ^ 64 → bit_xor (joined_halves a b) (joined_halves c d) ≡ joined_halves (bit_xor a c) (bit_xor b d)
 xor_joined a b c d hb hd = xor_block 64 a c b d hb hd
 
 -- the four lowest bits of the high half go into the low one
@@ -13,21 +13,21 @@ low_shifted high low h =
     ap (bit_xor (low / 16)) moved ∙ xor_comm (low / 16) (high % 16 * 2 ^ 60) ∙ xor_shifted (high % 16) 60 (low / 16) (omega arith)
 
 pub halves_shifted : (high low p q : ℕ) → low < 2 ^ 64 → q < 2 ^ 64
-    → joined (bit_xor (bit_xor (high / 16) (slice_index REDUCTIONS (low % 16))) p) (bit_xor (bit_xor (low / 16) (high * 2 ^ 60 % 2 ^ 64)) q)
-    ≡ bit_xor (times_x4 (joined high low)) (joined p q)
+    → joined_halves (bit_xor (bit_xor (high / 16) (slice_index REDUCTIONS (low % 16))) p) (bit_xor (bit_xor (low / 16) (high * 2 ^ 60 % 2 ^ 64)) q)
+    ≡ bit_xor (times_x4 (joined_halves high low)) (joined_halves p q)
 halves_shifted high low p q h k =
-    let z : ℕ = joined high low in
+    let z : ℕ = joined_halves high low in
     let down : ℕ = bit_xor (low / 16) (high * 2 ^ 60 % 2 ^ 64) in
     let top : ℕ = slice_index REDUCTIONS (low % 16) in
     let is_down : down ≡ high % 16 * 2 ^ 60 + low / 16 = low_shifted high low h in
     let below : down < 2 ^ 64 = omega (arith, is_down) in
-    let shifted : z / 16 ≡ joined (high / 16) down = omega (arith, is_down) in
+    let shifted : z / 16 ≡ joined_halves (high / 16) down = omega (arith, is_down) in
     let place : z % 16 ≡ low % 16 = omega arith in
-    let at : at_top top ≡ joined top 0 = omega arith in
-    let product : times_x4 z ≡ joined (bit_xor (high / 16) top) down =
+    let at : at_top top ≡ joined_halves top 0 = omega arith in
+    let product : times_x4 z ≡ joined_halves (bit_xor (high / 16) top) down =
     sym (shifted_four z) ∙ ap₂ bit_xor shifted (ap (λ (i : ℕ). at_top (slice_index REDUCTIONS i)) place ∙ at)
-    ∙ xor_joined (high / 16) down top 0 below (omega arith) ∙ ap (joined (bit_xor (high / 16) top)) (xor_zero_r down) in
-    sym (ap (λ (n : ℕ). bit_xor n (joined p q)) product ∙ xor_joined (bit_xor (high / 16) top) down p q below k)
+    ∙ xor_joined (high / 16) down top 0 below (omega arith) ∙ ap (joined_halves (bit_xor (high / 16) top)) (xor_zero_r down) in
+    sym (ap (λ (n : ℕ). bit_xor n (joined_halves p q)) product ∙ xor_joined (bit_xor (high / 16) top) down p q below k)
 
 -- ---- the bits of a block
 

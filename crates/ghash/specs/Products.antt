@@ -1,12 +1,12 @@
 -- The product of blocks, four bits at a time.
 use Rattle.std.specs.Prelude.{◌≡◌, ℕ, zero, suc, ◌+◌, ◌*◌, ◌^◌, List, map}
 use Rattle.std.specs.List.{range_with_len}
-use Rattle.crypto_specs.specs.Ghash.{sum_of_shifts}
+use Rattle.crypto_specs.specs.Ghash.{sum_of_multiples}
 use Rattle.crypto_specs.specs.Prelude.{times_x}
 
 -- the product of h and each polynomial of degree below 4, whose highest bit is the coefficient of x^0
 unfoldable pub products_of : ℕ → List ℕ
-products_of h = map (λ g. sum_of_shifts 4 g h) (range_with_len 0 16)
+products_of h = map (λ g. sum_of_multiples 4 g h) (range_with_len 0 16)
 
 -- the product of v and x^4
 abbrev pub times_x4 : ℕ → ℕ
@@ -23,5 +23,5 @@ pub record AreProducts (near far : List ℕ) (h : ℕ) : Type 0 where
   pub far_are : far ≡ products_of (shifted 64 h)
 
 -- a block of two halves
-abbrev pub joined : ℕ → ℕ → ℕ
-joined high low = high * 2 ^ 64 + low
+abbrev pub joined_halves : ℕ → ℕ → ℕ
+joined_halves high low = high * 2 ^ 64 + low

@@ -2,7 +2,7 @@
 
 ghost use Rattle.std.specs.Prelude.{◌≡◌, ℕ, bit_xor};
 ghost use Rattle.crypto_specs.specs.Prelude.{block_product};
-ghost use Rattle.ghash.specs.Products.{joined, products_of, shifted, times_x4};
+ghost use Rattle.ghash.specs.Products.{joined_halves, products_of, shifted, times_x4};
 
 use crate::bits::times_x;
 
@@ -66,7 +66,7 @@ struct Halves {
 impl Halves {
     // The halves of a block.
     fn of(block: u128) -> Halves
-        ensures { joined result.high result.low ≡ block }
+        ensures { joined_halves result.high result.low ≡ block }
     {
         Halves {
             high: (block >> 64) as u64,
@@ -76,7 +76,7 @@ impl Halves {
 
     // The product by x^4, and a block added to it.
     fn times_x4_plus(self, block: u128) -> Halves
-        ensures { joined result.high result.low ≡ bit_xor (times_x4 (joined self.high self.low)) block }
+        ensures { joined_halves result.high result.low ≡ bit_xor (times_x4 (joined_halves self.high self.low)) block }
     {
         let added = Halves::of(block);
         Halves {
@@ -87,7 +87,7 @@ impl Halves {
 
     // The block of the halves.
     fn joined(self) -> u128
-        ensures { result ≡ joined self.high self.low }
+        ensures { result ≡ joined_halves self.high self.low }
     {
         (u128::from(self.high) << 64) + u128::from(self.low)
     }

@@ -22,8 +22,8 @@ hasher_function (hasher.Sha384 s) = function.Sha384
 hasher_function (hasher.Sha512 s) = function.Sha512
 
 -- the state is one of this function, and holds this message
-abbrev pub Holds : HashState → Hash → List ℕ → Type 0
-Holds s which m = HasherHolds s.hasher which m
+abbrev pub HashHolds : HashState → Hash → List ℕ → Type 0
+HashHolds s which m = HasherHolds s.hasher which m
 
 -- the state's function
 abbrev pub function_of : HashState → Hash
@@ -31,4 +31,4 @@ function_of s = hasher_function s.hasher
 
 -- the state is that of the empty message
 abbrev pub IsEmpty : HashState → Type 0
-IsEmpty s = Holds s (function_of s) []
+IsEmpty s = HashHolds s (function_of s) []

@@ -1,5 +1,5 @@
 -- What several proofs of this crate cite of its words, and of other crates'.
-pub use Rattle.crypto_specs.specs.Prelude.{filled, inner_pad, outer_pad, xored_with}
+pub use Rattle.crypto_specs.specs.Prelude.{zero_padded, inner_pad, outer_pad, xored_with}
 unfoldable pub use Rattle.crypto_specs.specs.Prelude.{hmac, key_block}
 pub use Rattle.hash_ops.proofs.Digests.{length-hash_of, length_bounds}
 pub use Rattle.hash_ops.specs.Hashes.{block_length, digest_length, hash_of}

@@ -2,20 +2,20 @@
 use Rattle.std.specs.Prelude.{ℕ, List, ◌++◌}
 use Rattle.crypto_specs.specs.Prelude.{inner_pad, outer_pad}
 use Rattle.hash_ops.specs.Hashes.{hash_of, block_length}
-use Rattle.hash_ops.specs.States.{Holds, IsEmpty}
+use Rattle.hash_ops.specs.States.{HashHolds, IsEmpty}
 use Rattle.hash_ops.specs.declared.Hash.{Hash}
 use Rattle.hmac_ops.specs.declared.key.HmacKey.{HmacKey}
 use Rattle.hmac_ops.specs.declared.state.HmacState.{HmacState}
 
 -- the key has this function and these bytes
 pub record IsHmacKey (k : HmacKey) (which : Hash) (key : List ℕ) : Type 0 where
-  pub inner : Holds k.inner which (inner_pad (hash_of which) (block_length which) key)
-  pub outer : Holds k.outer which (outer_pad (hash_of which) (block_length which) key)
+  pub inner : HashHolds k.inner which (inner_pad (hash_of which) (block_length which) key)
+  pub outer : HashHolds k.outer which (outer_pad (hash_of which) (block_length which) key)
 
 -- the state has this function and key, and has taken in this message
 pub record HoldsHmac (s : HmacState) (which : Hash) (key message : List ℕ) : Type 0 where
-  pub inner : Holds s.inner which (inner_pad (hash_of which) (block_length which) key ++ message)
-  pub outer : Holds s.outer which (outer_pad (hash_of which) (block_length which) key)
+  pub inner : HashHolds s.inner which (inner_pad (hash_of which) (block_length which) key ++ message)
+  pub outer : HashHolds s.outer which (outer_pad (hash_of which) (block_length which) key)
 
 -- the hashes are those of the empty message
 pub record IsWipedHmacKey (k : HmacKey) : Type 0 where

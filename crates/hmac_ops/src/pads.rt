@@ -1,7 +1,7 @@
 // The block of a key, and what it is xored with.
 
 ghost use Rattle.std.specs.Prelude.{◌≡◌, ◌≤◌, length, take};
-ghost use Rattle.crypto_specs.specs.Prelude.{filled, key_block, xored_with};
+ghost use Rattle.crypto_specs.specs.Prelude.{zero_padded, key_block, xored_with};
 ghost use Rattle.hash_ops.specs.Hashes.{block_length, hash_of};
 
 use hash_ops::Hash;
@@ -10,7 +10,7 @@ use hash_ops::one_shot::hash;
 // The bytes, and zeros after them.
 fn filled(bytes: &[u8]) -> [u8; 128]
     requires { length bytes.now ≤ 128 }
-    ensures { result ≡ filled 128 bytes.now }
+    ensures { result ≡ zero_padded 128 bytes.now }
 {
     let mut out = [0u8; 128];
     'bytes: for i in 0..bytes.len() {

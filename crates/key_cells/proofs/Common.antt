@@ -6,19 +6,19 @@ pub use Rattle.disk_face.specs.Moments.{AfterStep, LeavesWritten, Within, after_
 pub use Rattle.key_attributes.specs.declared.Attributes.{Attributes}
 pub use Rattle.key_cells.specs.Body.{FoundKey, HoldsId, HoldsKey, HoldsNoKey, IsKeyOf, IsPersistent, front_of}
 unfoldable pub use Rattle.key_cells.specs.Body.{body_of}
-pub use Rattle.key_cells.specs.Causes.{IsCaused, IsDisk, IsRefusal}
-pub use Rattle.key_cells.specs.Contents.{Absent, Content, Doubtful, FitsCell, FitsEither, HasNoKey, HasZeros, IsFirstWithoutKey, IsSure, Keeps, Moves, Present, Shows, Sound, SoundBy, StandsForContents, StaysFree, StaysFreeBut, cell_slot, content_at, creation_of_slot, has_id, is_open, settled, settled_content, settled_slot, settled_slots}
-pub use Rattle.key_cells.specs.History.{AddsEntry, AddsEntryOf, AddsFailedCreation, CellEntry, Change, Created, CreationFailed, Destroyed, DestructionFailed, NotReached, Nothing, StandsForHistory, after, changed, entry_done}
+pub use Rattle.key_cells.specs.Causes.{IsOpenFaultOf, IsDisk, IsRefusal}
+pub use Rattle.key_cells.specs.Contents.{Absent, Content, Doubtful, FitsCell, FitsEither, HasNoKey, HasZeros, IsFirstWithoutKey, IsSure, KeepsContents, Moves, Present, Shows, Sound, SoundBy, StandsForContents, StaysFree, StaysFreeBut, cell_state, content_at, creation_of_state, has_id, is_open, settled, settled_content, settled_state, settled_states}
+pub use Rattle.key_cells.specs.History.{AddsEntry, AddsEntryOf, AddsFailedCreation, CellEntry, Change, Created, CreationFailed, Destroyed, DestructionFailed, NotReached, Nothing, StandsForHistory, contents_after, changed, entry_done}
 pub use Rattle.key_cells.specs.Image.{IsDamaged, IsStoreFile, SparesOpen}
 unfoldable pub use Rattle.key_cells.specs.Image.{identifier_in}
 pub use Rattle.key_cells.specs.Layout.{body, cells, closed, gate, opened_gate, part, place}
 unfoldable pub use Rattle.key_cells.specs.Layout.{header, zeros}
-pub use Rattle.key_cells.specs.Opening.{Clearing, ClearsOn, Finds, GivesPart, HasOneEach, IsBadCell, IsDirectory, IsFoundIn, IsNamed, IsNumbered, IsSettled, Reads, ReadsBelow, ReadsCell, Spares, WithinSpares, content_of, found_in}
+pub use Rattle.key_cells.specs.Opening.{Clearing, ClearsOn, Finds, GivesPart, HasOneEach, IsBadCell, IsImageDirectory, IsFoundIn, IsNamed, IsNumbered, IsSettled, Reads, ReadsBelow, ReadsCell, Spares, WithinSpares, content_of, found_in}
 unfoldable pub use Rattle.key_cells.specs.Opening.{contents_of}
 pub use Rattle.key_cells.specs.declared.reading.OpenFault.TheVariants.{DamagedCell, Disk, NotAStore}
 pub use Rattle.key_cells.specs.declared.reading.TheConstants.{HEADER}
-pub use Rattle.key_cells.specs.declared.slot.Slot.{Slot}
-pub use Rattle.key_cells.specs.declared.slot.Slot.TheVariants.{Free, Open, Shut, Unsure}
+pub use Rattle.key_cells.specs.declared.state.CellState.{CellState}
+pub use Rattle.key_cells.specs.declared.state.CellState.TheVariants.{Free, Open, Shut, Unsure}
 pub use Rattle.key_record.specs.Record.{IsKept, IsLength, IsNoLength, IsNoRecord, IsRecord, spelling}
 pub use Rattle.std.proofs.lemmas.Bool.{cases_eq, cases_lt}
 pub use Rattle.std.proofs.lemmas.Bool.Decides.{Decides-eqb}

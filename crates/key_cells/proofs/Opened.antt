@@ -1,10 +1,10 @@
 -- How the parts of an opening follow one another.
-use Rattle.key_cells.proofs.Common.{Absent, Bool, Clearing, Content, Disk, Elapses, Finds, Free, HasOneEach, IfSome, IsCaused, IsDirectory, IsDisk, IsFoundIn, IsNamed, IsNumbered, IsRefusal, IsStoreFile, LeavesWhatIsRead, List, NoNewImage, None, NotAStore, Open, Option, Present, Reads, ReadsBelow, Shut, Slot, Some, SoundBy, Spares, SparesOpen, StandsForContents, StillTells, Unsure, Within, WithinSpares, [], ap, arith, body, cell_slot, cells, closed, cond, content_of, contents_of, count_by, creation_of_slot, false, found_in, gate, get_or, get_or-map, get_or-replicate, has_id, inl, inr, is_open, is_some, length, length-map, map, nil_from_length, opened_gate, refl, replicate, settled_slot, settled_slots, subst, sum_by-cons, sym, take, take-map, true, within_both, within_none, within_one, ℕ, ⊎_elim, ◌+◌, ◌<◌, ◌==◌, ◌∙◌, ◌∷◌, ◌≡◌, ◌≢◌, ◌≤◌, ◌⊎◌}
+use Rattle.key_cells.proofs.Common.{Absent, Bool, Clearing, Content, Disk, Elapses, Finds, Free, HasOneEach, IfSome, IsOpenFaultOf, IsImageDirectory, IsDisk, IsFoundIn, IsNamed, IsNumbered, IsRefusal, IsStoreFile, LeavesWhatIsRead, List, NoNewImage, None, NotAStore, Open, Option, Present, Reads, ReadsBelow, Shut, CellState, Some, SoundBy, Spares, SparesOpen, StandsForContents, StillTells, Unsure, Within, WithinSpares, [], ap, arith, body, cell_state, cells, closed, cond, content_of, contents_of, count_by, creation_of_state, false, found_in, gate, get_or, get_or-map, get_or-replicate, has_id, inl, inr, is_open, is_some, length, length-map, map, nil_from_length, opened_gate, refl, replicate, settled_state, settled_states, subst, sum_by-cons, sym, take, take-map, true, within_both, within_none, within_one, ℕ, ⊎_elim, ◌+◌, ◌<◌, ◌==◌, ◌∙◌, ◌∷◌, ◌≡◌, ◌≢◌, ◌≤◌, ◌⊎◌}
 use Rattle.disk_face.specs.declared.Disk as Disk
 use Rattle.std.proofs.lemmas.Bool.{eqb-true}
 use Rattle.psa_status.specs.Causes.{Rose}
 use Rattle.key_cells.specs.declared.reading.OpenFault.{OpenFault}
-use Rattle.key_cells.specs.Opened.{Calm, IsOpened, IsRefused}
+use Rattle.key_cells.specs.Opened.{Calm, IsOpened, IsOpeningRefused}
 use Rattle.key_cells.proofs.CellsRead.{content_there, for_told, length-contents_of, some_weaker}
 use Rattle.key_cells.proofs.Finding.{not_damaged}
 use Rattle.key_cells.proofs.Moves.{settled_alike, settled_open}
@@ -34,8 +34,8 @@ module _ {D : Type 0} (disks : Disk.Ghosts D) where
   spares_calm old new calm image = record { later = calm.within.later; each = λ t other le left. ⊎_elim (λ past. inl past) (λ h. inr (inl h)) (calm.within.each t other le left) }
 
   -- an opening that is refused before anything is written
-  pub refused_calm : (old new : D) (fault : OpenFault) → Calm disks old new → IfSome (disks.contents old) (λ image. IsCaused fault image) → (IsDisk fault → Rose (disks.faults old) (disks.faults new)) → (IsRefusal fault → LeavesWhatIsRead (disks.contents old) (disks.may_leave new))
-      → IsRefused disks old new fault
+  pub refused_calm : (old new : D) (fault : OpenFault) → Calm disks old new → IfSome (disks.contents old) (λ image. IsOpenFaultOf fault image) → (IsDisk fault → Rose (disks.faults old) (disks.faults new)) → (IsRefusal fault → LeavesWhatIsRead (disks.contents old) (disks.may_leave new))
+      → IsOpeningRefused disks old new fault
   refused_calm old new fault calm caused rose durable = record {
     caused = caused;
     tells = ap is_some calm.same;
@@ -58,21 +58,21 @@ module _ {D : Type 0} (disks : Disk.Ghosts D) where
       calm.within (later store) (λ other h. inl h) (λ other h. ⊎_elim (λ left. inl (calm.crash other left)) (λ spared. inr spared) h)
 
   -- what an opening gives after steps that wrote nothing
-  pub opened_after : (a b c : D) (slots : List Slot) → Calm disks a b → IsOpened disks b c slots → IsOpened disks a c slots
-  opened_after a b c slots calm o = record {
+  pub opened_after : (a b c : D) (states : List CellState) → Calm disks a b → IsOpened disks b c states → IsOpened disks a c states
+  opened_after a b c states calm o = record {
     sized = o.sized;
     one = o.one;
     numbered = o.numbered;
     named = o.named;
     tells = o.tells ∙ ap is_some calm.same;
-    found = after (disks.contents a) (disks.contents b) (λ image. IsFoundIn image slots) (λ image. IsFoundIn image slots) calm.same (λ image h. h) o.found;
-    stands = after (disks.contents a) (disks.contents b) (λ image. StandsForContents disks c slots (found_in image)) (λ image. StandsForContents disks c slots (found_in image)) calm.same (λ image h. h) o.stands;
+    found = after (disks.contents a) (disks.contents b) (λ image. IsFoundIn image states) (λ image. IsFoundIn image states) calm.same (λ image h. h) o.found;
+    stands = after (disks.contents a) (disks.contents b) (λ image. StandsForContents disks c states (found_in image)) (λ image. StandsForContents disks c states (found_in image)) calm.same (λ image h. h) o.stands;
     spares = after (disks.contents a) (disks.contents b) _ _ calm.same (λ image h. spares_after a b c calm image h) o.spares;
   }
 
-  pub refused_after : (a b c : D) (fault : OpenFault) → Calm disks a b → IsRefused disks b c fault → IsRefused disks a c fault
+  pub refused_after : (a b c : D) (fault : OpenFault) → Calm disks a b → IsOpeningRefused disks b c fault → IsOpeningRefused disks a c fault
   refused_after a b c fault calm r = record {
-    caused = after (disks.contents a) (disks.contents b) (λ image. IsCaused fault image) (λ image. IsCaused fault image) calm.same (λ image h. h) r.caused;
+    caused = after (disks.contents a) (disks.contents b) (λ image. IsOpenFaultOf fault image) (λ image. IsOpenFaultOf fault image) calm.same (λ image h. h) r.caused;
     tells = r.tells ∙ ap is_some calm.same;
     later = omega (arith, calm.later, r.later);
     rose = λ is. omega (arith, calm.later, r.rose is);
@@ -95,73 +95,73 @@ not_opened (x ∷ []) b differs = by (x == 0xa5) refl
 not_opened (x ∷ y ∷ rest) b differs = refl
 
 -- what is read of a cell is what is spared of it
-reads_spares : (slot : Slot) (gate body : List ℕ) → Reads slot gate body → Spares slot (content_of gate body) gate body
+reads_spares : (state : CellState) (gate body : List ℕ) → Reads state gate body → Spares state (content_of gate body) gate body
 reads_spares Free gate body r = subst (λ (g : List ℕ). Spares Free (content_of g body) g body) (sym r.0) (refl, r.1)
 reads_spares (Open id creation) gate body r = subst (λ (g : List ℕ). Spares (Open id creation) (content_of g body) g body) (sym r.0) (refl, refl)
 reads_spares Shut gate body r = subst (λ (g : List ℕ). Spares Shut (content_of g body) g body) (sym r) refl
 reads_spares Unsure gate body r = subst (λ (c : Content). Spares Unsure c gate body) (sym (not_opened gate body r)) tt
 
-pub reads_sound : (slots : List Slot) (image : List ℕ) → IsStoreFile image → ReadsBelow cells slots image → SoundBy Spares slots (contents_of image) image
-reads_sound slots image store reads = record {
+pub reads_sound : (states : List CellState) (image : List ℕ) → IsStoreFile image → ReadsBelow cells states image → SoundBy Spares states (contents_of image) image
+reads_sound states image store reads = record {
   size = store.size;
   header = store.header;
-  each = λ cell lt. rw (content_there cell image lt) (reads_spares (cell_slot slots cell) (gate cell image) (body cell image) (reads cell lt));
+  each = λ cell lt. rw (content_there cell image lt) (reads_spares (cell_state states cell) (gate cell image) (body cell image) (reads cell lt));
 }
 
 -- what is spared is each open cell, byte for byte
-pub spares_open : (slots : List Slot) (image other : List ℕ) → SoundBy Spares slots (contents_of image) other → SparesOpen image other
-spares_open slots image other s cell lt is =
+pub spares_open : (states : List CellState) (image other : List ℕ) → SoundBy Spares states (contents_of image) other → SparesOpen image other
+spares_open states image other s cell lt is =
     let there : get_or (contents_of image) cell Absent ≡ Present (body cell image) = content_there cell image lt ∙ ap (λ (g : List ℕ). content_of g (body cell image)) is in
-    by (cell_slot slots cell) (gate cell other) (body cell other) (subst (λ (c : Content). Spares (cell_slot slots cell) c (gate cell other) (body cell other)) there (s.each cell lt))
+    by (cell_state states cell) (gate cell other) (body cell other) (subst (λ (c : Content). Spares (cell_state states cell) c (gate cell other) (body cell other)) there (s.each cell lt))
   where
-    by : (slot : Slot) (g b : List ℕ) → Spares slot (Present (body cell image)) g b → (g ≡ opened_gate) × (b ≡ body cell image)
+    by : (state : CellState) (g b : List ℕ) → Spares state (Present (body cell image)) g b → (g ≡ opened_gate) × (b ≡ body cell image)
     by (Open id creation) g b h = h
-    by slot g b h = absurd h
+    by state g b h = absurd h
 
 -- the directory once no cell is left over
-settled_has : (id : ℕ) (slot : Slot) → has_id id (settled_slot slot) ≡ has_id id slot
-settled_has id slot = settled_alike (has_id id) refl refl slot
+settled_has : (id : ℕ) (state : CellState) → has_id id (settled_state state) ≡ has_id id state
+settled_has id state = settled_alike (has_id id) refl refl state
 
-key_of : Slot → ℕ
-key_of slot = cond (is_open slot) 1 0
+key_of : CellState → ℕ
+key_of state = cond (is_open state) 1 0
 
-settled_count : (slots : List Slot) → count_by is_open (map settled_slot slots) ≡ count_by is_open slots
+settled_count : (states : List CellState) → count_by is_open (map settled_state states) ≡ count_by is_open states
 unfolding key_of
 settled_count [] = refl
-settled_count (slot ∷ slots) =
-    sum_by-cons key_of (settled_slot slot) (map settled_slot slots)
-    ∙ (ap (λ (b : Bool). cond b 1 0 + count_by is_open (map settled_slot slots)) (settled_open slot)
-    ∙ (ap (λ (n : ℕ). key_of slot + n) (settled_count slots)
-    ∙ sym (sum_by-cons key_of slot slots)))
+settled_count (state ∷ states) =
+    sum_by-cons key_of (settled_state state) (map settled_state states)
+    ∙ (ap (λ (b : Bool). cond b 1 0 + count_by is_open (map settled_state states)) (settled_open state)
+    ∙ (ap (λ (n : ℕ). key_of state + n) (settled_count states)
+    ∙ sym (sum_by-cons key_of state states)))
 
-module _ (slots slots' : List Slot) (count : length slots ≡ 512) (is : slots' ≡ settled_slots slots) where
-  at : (cell : ℕ) → cell < cells → cell_slot slots' cell ≡ settled_slot (cell_slot slots cell)
-  at cell lt = ap (λ (l : List Slot). cell_slot l cell) is ∙ get_or-map settled_slot slots cell Free Free (omega (arith, count))
+module _ (states states' : List CellState) (count : length states ≡ 512) (is : states' ≡ settled_states states) where
+  at : (cell : ℕ) → cell < cells → cell_state states' cell ≡ settled_state (cell_state states cell)
+  at cell lt = ap (λ (l : List CellState). cell_state l cell) is ∙ get_or-map settled_state states cell Free Free (omega (arith, count))
 
-  pub settled_one : HasOneEach cells slots → HasOneEach cells slots'
+  pub settled_one : HasOneEach cells states → HasOneEach cells states'
   settled_one one id cell other lt lt' has has' =
       one id cell other lt lt'
-      (sym (settled_has id (cell_slot slots cell)) ∙ (ap (has_id id) (sym (at cell lt)) ∙ has))
-      (sym (settled_has id (cell_slot slots other)) ∙ (ap (has_id id) (sym (at other lt')) ∙ has'))
+      (sym (settled_has id (cell_state states cell)) ∙ (ap (has_id id) (sym (at cell lt)) ∙ has))
+      (sym (settled_has id (cell_state states other)) ∙ (ap (has_id id) (sym (at other lt')) ∙ has'))
 
-  pub settled_named : IsNamed cells slots → IsNamed cells slots'
-  settled_named named id cell lt has = named id cell lt (sym (settled_has id (cell_slot slots cell)) ∙ (ap (has_id id) (sym (at cell lt)) ∙ has))
+  pub settled_named : IsNamed cells states → IsNamed cells states'
+  settled_named named id cell lt has = named id cell lt (sym (settled_has id (cell_state states cell)) ∙ (ap (has_id id) (sym (at cell lt)) ∙ has))
 
-  pub settled_numbered : IsNumbered cells slots → IsNumbered cells slots'
+  pub settled_numbered : IsNumbered cells states → IsNumbered cells states'
   settled_numbered numbered cell lt open_now =
-      ap creation_of_slot (at cell lt) ∙ (settled_alike creation_of_slot refl refl (cell_slot slots cell)
-      ∙ (numbered cell lt (sym (settled_open (cell_slot slots cell)) ∙ (ap is_open (sym (at cell lt)) ∙ open_now))
-      ∙ (sym (settled_count (take cell slots)) ∙ ap (count_by is_open) (sym (ap (take cell) is ∙ take-map settled_slot cell slots)))))
+      ap creation_of_state (at cell lt) ∙ (settled_alike creation_of_state refl refl (cell_state states cell)
+      ∙ (numbered cell lt (sym (settled_open (cell_state states cell)) ∙ (ap is_open (sym (at cell lt)) ∙ open_now))
+      ∙ (sym (settled_count (take cell states)) ∙ ap (count_by is_open) (sym (ap (take cell) is ∙ take-map settled_state cell states)))))
 
-  finds : (slot : Slot) (g b : List ℕ) → Reads slot g b → Finds (settled_slot slot) g b
+  finds : (state : CellState) (g b : List ℕ) → Reads state g b → Finds (settled_state state) g b
   finds Free g b r = λ e. let clash : closed ≡ opened_gate = sym r.0 ∙ e in cc
   finds Shut g b r = λ e. let clash : closed ≡ opened_gate = sym r ∙ e in cc
-  finds slot g b r = r
+  finds state g b r = r
 
-  pub settled_directory : (image : List ℕ) → IsStoreFile image → ReadsBelow cells slots image → HasOneEach cells slots → IsDirectory slots' image
+  pub settled_directory : (image : List ℕ) → IsStoreFile image → ReadsBelow cells states image → HasOneEach cells states → IsImageDirectory states' image
   settled_directory image store reads one = record {
-    opens = record { store = store; sound = λ cell lt damaged. not_damaged cells slots image reads one cell lt damaged };
-    each = λ cell lt. subst (λ (s : Slot). Finds s (gate cell image) (body cell image)) (sym (at cell lt)) (finds (cell_slot slots cell) (gate cell image) (body cell image) (reads cell lt));
+    opens = record { store = store; sound = λ cell lt damaged. not_damaged cells states image reads one cell lt damaged };
+    each = λ cell lt. subst (λ (s : CellState). Finds s (gate cell image) (body cell image)) (sym (at cell lt)) (finds (cell_state states cell) (gate cell image) (body cell image) (reads cell lt));
   }
 
 -- a new store, of an image of no bytes
@@ -174,13 +174,13 @@ of_nothing None size P none measured h = tt
 of_nothing (Some image) size P none measured h = subst P (sym (nil_from_length image (measured ∙ none))) h
 
 pub refused_new : {D : Type 0} (disks : Disk.Ghosts D) (old new : D) (size : ℕ)
-    → size ≡ 0 → IfSome (disks.contents old) (λ image. length image ≡ size) → StillTells (disks.contents old) (disks.contents new) → disks.faults old ≤ disks.faults new → Rose (disks.faults old) (disks.faults new) → IsRefused disks old new Disk
+    → size ≡ 0 → IfSome (disks.contents old) (λ image. length image ≡ size) → StillTells (disks.contents old) (disks.contents new) → disks.faults old ≤ disks.faults new → Rose (disks.faults old) (disks.faults new) → IsOpeningRefused disks old new Disk
 refused_new disks old new size none measured tells later rose = record {
   tells = tells;
   later = later;
   unwritten = λ is. absurd is;
   unwritten_within = λ is. absurd is;
-  caused = of_nothing (disks.contents old) size (λ image. IsCaused Disk image) none measured tt;
+  caused = of_nothing (disks.contents old) size (λ image. IsOpenFaultOf Disk image) none measured tt;
   rose = λ is. rose;
   same = λ is. absurd is;
   durable = λ is. absurd is;
@@ -194,63 +194,63 @@ of_store None P h = tt
 of_store (Some []) P h = absurd (omega (arith, h.0.size))
 of_store (Some (byte ∷ rest)) P h = h.1
 
-pub of_directory : (told : Option (List ℕ)) (slots : List Slot) → IfSome told (λ image. IsDirectory slots image) → IfSome told (λ image. IsFoundIn image slots)
-of_directory None slots h = tt
-of_directory (Some []) slots h = absurd (omega (arith, h.opens.store.size))
-of_directory (Some (byte ∷ rest)) slots h = h
+pub of_directory : (told : Option (List ℕ)) (states : List CellState) → IfSome told (λ image. IsImageDirectory states image) → IfSome told (λ image. IsFoundIn image states)
+of_directory None states h = tt
+of_directory (Some []) states h = absurd (omega (arith, h.opens.store.size))
+of_directory (Some (byte ∷ rest)) states h = h
 
--- no slot of a new store has a key
-pub none_has : (f : Slot → Bool) (cell : ℕ) (slots : List Slot) → f Free ≡ false → slots ≡ replicate 512 Free → cell < cells → f (cell_slot slots cell) ≡ true → ⊥
-none_has f cell slots none are lt has =
-    let clash : false ≡ true = sym (ap f (ap (λ (l : List Slot). cell_slot l cell) are ∙ get_or-replicate 512 cell Free Free lt) ∙ none) ∙ has in
+-- no state of a new store has a key
+pub none_has : (f : CellState → Bool) (cell : ℕ) (states : List CellState) → f Free ≡ false → states ≡ replicate 512 Free → cell < cells → f (cell_state states cell) ≡ true → ⊥
+none_has f cell states none are lt has =
+    let clash : false ≡ true = sym (ap f (ap (λ (l : List CellState). cell_state l cell) are ∙ get_or-replicate 512 cell Free Free lt) ∙ none) ∙ has in
     cc
 
-module _ {D : Type 0} (disks : Disk.Ghosts D) (disk mid : D) (slots : List Slot) (calm : Calm disks disk mid) (durable : LeavesWhatIsRead (disks.contents disk) (disks.may_leave disk)) (store : IfSome (disks.contents disk) (λ image. IsStoreFile image)) (reads : IfSome (disks.contents disk) (λ image. ReadsBelow cells slots image)) where
+module _ {D : Type 0} (disks : Disk.Ghosts D) (disk mid : D) (states : List CellState) (calm : Calm disks disk mid) (durable : LeavesWhatIsRead (disks.contents disk) (disks.may_leave disk)) (store : IfSome (disks.contents disk) (λ image. IsStoreFile image)) (reads : IfSome (disks.contents disk) (λ image. ReadsBelow cells states image)) where
   -- what was read, before any cell that is left over is cleared
-  read_begins : (image : List ℕ) → disks.contents disk ≡ Some image → Clearing disks mid slots slots (contents_of image)
+  read_begins : (image : List ℕ) → disks.contents disk ≡ Some image → Clearing disks mid states states (contents_of image)
   read_begins image is =
       let only : LeavesWhatIsRead (Some image) (disks.may_leave disk) = subst (λ (o : Option (List ℕ)). LeavesWhatIsRead o (disks.may_leave disk)) is durable in
       let here : IsStoreFile image = subst (λ (o : Option (List ℕ)). IfSome o (λ image. IsStoreFile image)) is store in
-      let read : ReadsBelow cells slots image = subst (λ (o : Option (List ℕ)). IfSome o (λ image. ReadsBelow cells slots image)) is reads in
+      let read : ReadsBelow cells states image = subst (λ (o : Option (List ℕ)). IfSome o (λ image. ReadsBelow cells states image)) is reads in
       record {
         now = image;
         is_told = calm.same ∙ is;
-        reads = reads_sound slots image here read;
-        each = λ other left. subst (λ (x : List ℕ). SoundBy Spares slots (contents_of image) x) (sym (only other (calm.crash other left))) (reads_sound slots image here read);
+        reads = reads_sound states image here read;
+        each = λ other left. subst (λ (x : List ℕ). SoundBy Spares states (contents_of image) x) (sym (only other (calm.crash other left))) (reads_sound states image here read);
         shut = λ cell lt shut. shut;
         unsure = λ cell lt unsure. unsure;
       }
 
   abbrev pub ClearsWithin : D → Type 0
-  ClearsWithin new = (contents : List Content) → Clearing disks mid slots slots contents → Within (disks.moment mid) (disks.moment new) (disks.left_since mid) (disks.left_since new) (SoundBy Spares slots contents)
+  ClearsWithin new = (contents : List Content) → Clearing disks mid states states contents → Within (disks.moment mid) (disks.moment new) (disks.left_since mid) (disks.left_since new) (SoundBy Spares states contents)
 
   read_spares : (new : D) → ClearsWithin new → IfSome (disks.contents disk) (λ image. IsStoreFile image → WithinSpares (disks.moment disk) (disks.moment new) (disks.left_since disk) (disks.left_since new) (disks.may_leave disk) image)
   read_spares new within = for_told (disks.contents disk) _ (λ image is here.
-      within_both (disks.moment disk) (disks.moment mid) (disks.moment new) (disks.left_since disk) (disks.left_since mid) (disks.left_since new) (disks.may_leave disk) (SoundBy Spares slots (contents_of image)) (λ other. disks.may_leave disk other ⊎ SparesOpen image other)
-      calm.within (within (contents_of image) (read_begins image is)) (λ other h. inl h) (λ other h. inr (spares_open slots image other h)))
+      within_both (disks.moment disk) (disks.moment mid) (disks.moment new) (disks.left_since disk) (disks.left_since mid) (disks.left_since new) (disks.may_leave disk) (SoundBy Spares states (contents_of image)) (λ other. disks.may_leave disk other ⊎ SparesOpen image other)
+      calm.within (within (contents_of image) (read_begins image is)) (λ other h. inl h) (λ other h. inr (spares_open states image other h)))
 
-  pub read_opened : (new : D) (slots' : List Slot) → length slots ≡ 512 → slots' ≡ settled_slots slots → HasOneEach cells slots → IsNumbered cells slots → IsNamed cells slots → StillTells (disks.contents mid) (disks.contents new)
-      → ((contents : List Content) → length contents ≡ 512 → Clearing disks mid slots slots contents → StandsForContents disks new slots' contents) → ClearsWithin new
-      → IsOpened disks disk new slots'
-  read_opened new slots' count is one numbered named tells stands within = record {
-    sized = ap length is ∙ (length-map slots settled_slot ∙ count);
-    one = settled_one slots slots' count is one;
-    numbered = settled_numbered slots slots' count is numbered;
-    named = settled_named slots slots' count is named;
+  pub read_opened : (new : D) (states' : List CellState) → length states ≡ 512 → states' ≡ settled_states states → HasOneEach cells states → IsNumbered cells states → IsNamed cells states → StillTells (disks.contents mid) (disks.contents new)
+      → ((contents : List Content) → length contents ≡ 512 → Clearing disks mid states states contents → StandsForContents disks new states' contents) → ClearsWithin new
+      → IsOpened disks disk new states'
+  read_opened new states' count is one numbered named tells stands within = record {
+    sized = ap length is ∙ (length-map states settled_state ∙ count);
+    one = settled_one states states' count is one;
+    numbered = settled_numbered states states' count is numbered;
+    named = settled_named states states' count is named;
     tells = tells ∙ ap is_some calm.same;
-    found = of_directory (disks.contents disk) slots' (for_told (disks.contents disk) _ (λ image told_is.
+    found = of_directory (disks.contents disk) states' (for_told (disks.contents disk) _ (λ image told_is.
         let here : IsStoreFile image = subst (λ (o : Option (List ℕ)). IfSome o (λ image. IsStoreFile image)) told_is store in
-        let read : ReadsBelow cells slots image = subst (λ (o : Option (List ℕ)). IfSome o (λ image. ReadsBelow cells slots image)) told_is reads in
-        settled_directory slots slots' count is image here read one));
-    stands = of_store (disks.contents disk) (λ image contents. StandsForContents disks new slots' contents) (for_told (disks.contents disk) _ (λ image told_is.
+        let read : ReadsBelow cells states image = subst (λ (o : Option (List ℕ)). IfSome o (λ image. ReadsBelow cells states image)) told_is reads in
+        settled_directory states states' count is image here read one));
+    stands = of_store (disks.contents disk) (λ image contents. StandsForContents disks new states' contents) (for_told (disks.contents disk) _ (λ image told_is.
         let here : IsStoreFile image = subst (λ (o : Option (List ℕ)). IfSome o (λ image. IsStoreFile image)) told_is store in
         (here, stands (contents_of image) (length-contents_of image) (read_begins image told_is))));
     spares = read_spares new within;
   }
 
   pub read_refused : (new : D) → StillTells (disks.contents mid) (disks.contents new) → disks.faults disk ≤ disks.faults new → Rose (disks.faults disk) (disks.faults new)
-      → ((contents : List Content) → Clearing disks mid slots slots contents → (image : List ℕ) → disks.may_leave new image → SoundBy Spares slots contents image) → ClearsWithin new
-      → IsRefused disks disk new Disk
+      → ((contents : List Content) → Clearing disks mid states states contents → (image : List ℕ) → disks.may_leave new image → SoundBy Spares states contents image) → ClearsWithin new
+      → IsOpeningRefused disks disk new Disk
   read_refused new tells later rose left within = record {
     tells = tells ∙ ap is_some calm.same;
     later = later;
@@ -261,7 +261,7 @@ module _ {D : Type 0} (disks : Disk.Ghosts D) (disk mid : D) (slots : List Slot)
     same = λ is. absurd is;
     durable = λ is. absurd is;
     spares = read_spares new within;
-    left = for_told (disks.contents disk) _ (λ image is here. inr (λ other has. spares_open slots image other (left (contents_of image) (read_begins image is) other has)));
+    left = for_told (disks.contents disk) _ (λ image is here. inr (λ other has. spares_open states image other (left (contents_of image) (read_begins image is) other has)));
   }
 
 -- nothing is pending still
@@ -277,6 +277,6 @@ told_nothing None = tt
 told_nothing (Some image) = tt
 
 -- a length that is neither 0 nor a store's
-pub no_store_of : (o : Option (List ℕ)) (size : ℕ) → (size ≡ 0 → ⊥) → (size ≡ 557120 → ⊥) → IfSome o (λ image. length image ≡ size) → IfSome o (λ image. IsCaused NotAStore image)
+pub no_store_of : (o : Option (List ℕ)) (size : ℕ) → (size ≡ 0 → ⊥) → (size ≡ 557120 → ⊥) → IfSome o (λ image. length image ≡ size) → IfSome o (λ image. IsOpenFaultOf NotAStore image)
 no_store_of None size some other measured = tt
 no_store_of (Some image) size some other measured = record { some = λ none. some (sym measured ∙ none); other = λ store. other (sym measured ∙ store.size) }

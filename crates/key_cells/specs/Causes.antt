@@ -5,11 +5,11 @@ use Rattle.key_cells.specs.declared.reading.OpenFault.TheVariants.{NotAStore, Da
 use Rattle.key_cells.specs.Image.{IsNoStore, IsFirstDamaged}
 
 -- what the image has then
-abbrev pub IsCaused : OpenFault → List ℕ → Type 0
-IsCaused NotAStore image = IsNoStore image
-IsCaused (DamagedCell cell) image = IsFirstDamaged image cell
-IsCaused Disk image = ⊤
-IsCaused Memory image = ⊤
+abbrev pub IsOpenFaultOf : OpenFault → List ℕ → Type 0
+IsOpenFaultOf NotAStore image = IsNoStore image
+IsOpenFaultOf (DamagedCell cell) image = IsFirstDamaged image cell
+IsOpenFaultOf Disk image = ⊤
+IsOpenFaultOf Memory image = ⊤
 
 abbrev pub IsDisk : OpenFault → Type 0
 IsDisk NotAStore = ⊥

@@ -4,12 +4,12 @@ use Rattle.std.specs.Prelude.{◌≡◌, ◌≤◌, ◌⊎◌, ℕ, List, length
 use Rattle.psa_status.specs.Causes.{Rose}
 use Rattle.disk_face.specs.Disk.{NoNewImage, LeavesWhatIsRead, StillTells}
 use Rattle.disk_face.specs.Moments.{Within}
-use Rattle.key_cells.specs.declared.slot.Slot.{Slot}
+use Rattle.key_cells.specs.declared.state.CellState.{CellState}
 use Rattle.key_cells.specs.declared.reading.OpenFault.{OpenFault}
 use Rattle.key_cells.specs.Layout.{cells}
 use Rattle.key_cells.specs.Contents.{StandsForContents}
 use Rattle.key_cells.specs.Image.{IsStoreFile, SparesOpen}
-use Rattle.key_cells.specs.Causes.{IsCaused, IsDisk, IsRefusal}
+use Rattle.key_cells.specs.Causes.{IsOpenFaultOf, IsDisk, IsRefusal}
 use Rattle.key_cells.specs.Opening.{found_in, IsFoundIn, HasOneEach, IsNumbered, IsNamed, WithinSpares}
 
 -- calls that wrote nothing
@@ -21,20 +21,20 @@ pub record Calm {D : Type 0} (disks : Disk.Ghosts D) (old new : D) : Type 0 wher
 
 -- An opening found exactly the keys of the disk's image, and nothing is in doubt. Of a store that was there, every
 -- image within the opening has each open cell byte for byte, or might have been left before the opening.
-pub record IsOpened {D : Type 0} (disks : Disk.Ghosts D) (old new : D) (slots : List Slot) : Type 0 where
-  pub sized : length slots ≡ cells
-  pub one : HasOneEach cells slots
-  pub numbered : IsNumbered cells slots
-  pub named : IsNamed cells slots
+pub record IsOpened {D : Type 0} (disks : Disk.Ghosts D) (old new : D) (states : List CellState) : Type 0 where
+  pub sized : length states ≡ cells
+  pub one : HasOneEach cells states
+  pub numbered : IsNumbered cells states
+  pub named : IsNamed cells states
   pub tells : StillTells (disks.contents old) (disks.contents new)
-  pub found : IfSome (disks.contents old) (λ image. IsFoundIn image slots)
-  pub stands : IfSome (disks.contents old) (λ image. StandsForContents disks new slots (found_in image))
+  pub found : IfSome (disks.contents old) (λ image. IsFoundIn image states)
+  pub stands : IfSome (disks.contents old) (λ image. StandsForContents disks new states (found_in image))
   pub spares : IfSome (disks.contents old) (λ image. IsStoreFile image → WithinSpares (disks.moment old) (disks.moment new) (disks.left_since old) (disks.left_since new) (disks.may_leave old) image)
 
 -- An opening was refused: for what the image has, and then nothing was written and nothing is pending, or for a fault
 -- of the disk or of memory.
-pub record IsRefused {D : Type 0} (disks : Disk.Ghosts D) (old new : D) (fault : OpenFault) : Type 0 where
-  pub caused : IfSome (disks.contents old) (λ image. IsCaused fault image)
+pub record IsOpeningRefused {D : Type 0} (disks : Disk.Ghosts D) (old new : D) (fault : OpenFault) : Type 0 where
+  pub caused : IfSome (disks.contents old) (λ image. IsOpenFaultOf fault image)
   pub tells : StillTells (disks.contents old) (disks.contents new)
   pub later : disks.faults old ≤ disks.faults new
   pub rose : IsDisk fault → Rose (disks.faults old) (disks.faults new)

@@ -3,7 +3,7 @@ pub use Rattle.key_cells.specs.Layout.{body, closed, gate, opened_gate, place}
 unfoldable pub use Rattle.key_cells.specs.Layout.{zeros}
 pub use Rattle.key_cells.specs.Body.{HoldsId, HoldsKey, IsKeyOf, IsPersistent}
 unfoldable pub use Rattle.key_cells.specs.Body.{body_of}
-pub use Rattle.key_cells.specs.Contents.{Absent, Content, CreationFailed, Doubtful, Fits, FitsCell, HasNoKey, HasZeros, IsFirstWithKey, IsFirstWithoutKey, IsFull, IsSure, Moves, MovesEither, Present, Shows, Sound, StandsForContents, cell_slot, content_at, creation_of_slot, has_id, is_open, settled, settled_content, settled_slot, settled_slots}
+pub use Rattle.key_cells.specs.Contents.{Absent, Content, CreationFailed, Doubtful, Fits, FitsCell, HasNoKey, HasZeros, IsFirstWithKey, IsFirstWithoutKey, IsFull, IsSure, Moves, MovesEither, Present, Shows, Sound, StandsForContents, cell_state, content_at, creation_of_state, has_id, is_open, settled, settled_content, settled_state, settled_states}
 pub use Rattle.key_cells.specs.Image.{HasKey, IsDamaged, IsFirstDamaged, IsNoStore, Opens}
 pub use Rattle.key_cells.specs.Opening.{Finds, HasOneEach, IsFoundIn, IsNamed, IsNumbered, content_of, found_in}
-pub use Rattle.key_cells.specs.Opened.{IsOpened, IsRefused}
+pub use Rattle.key_cells.specs.Opened.{IsOpened, IsOpeningRefused}

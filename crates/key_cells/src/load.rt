@@ -1,7 +1,7 @@
 // How the key of a cell is read.
 ghost use Rattle.std.specs.Prelude.{◌≡◌, ◌<◌, ◌≤◌, true, List, ℕ, length, IsErrOf, OnErr, IfOk};
 ghost use Rattle.psa_status.specs.Causes.{Rose};
-ghost use Rattle.key_cells.specs.Contents.{Keeps, cell_slot, is_open, has_id};
+ghost use Rattle.key_cells.specs.Contents.{KeepsContents, cell_state, is_open, has_id};
 ghost use Rattle.key_cells.specs.Body.{IsKeyOf};
 ghost use Rattle.key_cells.specs.Calls.{IsKeyOfCell, IsCorrupt};
 ghost use Rattle.key_cells.specs.History.{Nothing, AddsEntry};
@@ -20,17 +20,17 @@ impl<D: Disk> Cells<D> {
     /// only where the disk's faults rose, `Corrupt` only where the cell is read otherwise than it was written.
     pub fn load(&mut self, cell: usize, out: &mut Secret) -> Result<Attributes, CellFault>
         requires size { D.size self.old.disk ≡ 557120 }
-        requires slots { length self.old.slots.items ≡ 512 }
+        requires states { length self.old.states.items ≡ 512 }
         requires within { cell < 512 }
-        requires open { is_open (cell_slot self.old.slots.items cell) ≡ true }
+        requires open { is_open (cell_state self.old.states.items cell) ≡ true }
         ensures size { D.size self.new.disk ≡ 557120 }
-        ensures slots { self.new.slots ≡ self.old.slots }
+        ensures states { self.new.states ≡ self.old.states }
         ensures same { D.contents self.new.disk ≡ D.contents self.old.disk }
-        ensures named { IfOk result (λ attributes. has_id attributes.id.0 (cell_slot self.old.slots.items cell) ≡ true) }
+        ensures named { IfOk result (λ attributes. has_id attributes.id.0 (cell_state self.old.states.items cell) ≡ true) }
         ensures key { IfOk result (λ attributes. IsKeyOf attributes (bytes_of out.new)) }
         ensures loaded { IfOk result (λ attributes. IsKeyOfCell D.Disk self.old cell attributes (bytes_of out.new)) }
-        ensures keeps { Keeps D.Disk self.old.disk self.new.disk self.old.slots.items self.old.slots.items }
-        ensures entry { AddsEntry D.Disk self.old.disk self.new.disk self.old.slots.items self.old.slots.items Nothing }
+        ensures keeps { KeepsContents D.Disk self.old.disk self.new.disk self.old.states.items self.old.states.items }
+        ensures entry { AddsEntry D.Disk self.old.disk self.new.disk self.old.states.items self.old.states.items Nothing }
         ensures clear { OnErr result (IsClear out.new) }
         ensures disk { IsErrOf result CellFault.Disk → Rose (D.faults self.old.disk) (D.faults self.new.disk) }
         ensures corrupt { IsErrOf result CellFault.Corrupt → IsCorrupt D.Disk self.old cell }
@@ -58,15 +58,15 @@ impl<D: Disk> Cells<D> {
         out: &mut Secret,
     ) -> Result<Attributes, CellFault>
         requires size { D.size self.old.disk ≡ 557120 }
-        requires slots { length self.old.slots.items ≡ 512 }
+        requires states { length self.old.states.items ≡ 512 }
         requires within { cell < 512 }
         ensures size { D.size self.new.disk ≡ 557120 }
-        ensures slots { self.new.slots ≡ self.old.slots }
+        ensures states { self.new.states ≡ self.old.states }
         ensures same { D.contents self.new.disk ≡ D.contents self.old.disk }
-        ensures named { IfOk result (λ attributes. has_id attributes.id.0 (cell_slot self.old.slots.items cell) ≡ true) }
+        ensures named { IfOk result (λ attributes. has_id attributes.id.0 (cell_state self.old.states.items cell) ≡ true) }
         ensures key { IfOk result (λ attributes. IsKeyOf attributes (bytes_of out.new)) }
         ensures loaded { IfOk result (λ attributes. IsKeyOfCell D.Disk self.old cell attributes (bytes_of out.new)) }
-        ensures keeps { Keeps D.Disk self.old.disk self.new.disk self.old.slots.items self.old.slots.items }
+        ensures keeps { KeepsContents D.Disk self.old.disk self.new.disk self.old.states.items self.old.states.items }
         ensures disk { IsErrOf result CellFault.Disk → Rose (D.faults self.old.disk) (D.faults self.new.disk) }
         ensures corrupt { IsErrOf result CellFault.Corrupt → IsCorrupt D.Disk self.old cell }
         ensures full { IsErrOf result CellFault.Full → ⊥ }
@@ -79,7 +79,7 @@ impl<D: Disk> Cells<D> {
         let Some((attributes, end)) = read_key(room) else {
             return Err(CellFault::Corrupt);
         };
-        if !self.slots[cell].has(attributes.id.0) {
+        if !self.states[cell].has(attributes.id.0) {
             return Err(CellFault::Corrupt);
         }
         out.fill_from(&room[52..end]);

@@ -5,11 +5,11 @@ ghost use Rattle.disk_face.specs.Disk.{NoNewImage, Elapses};
 ghost use Rattle.key_cells.specs.Contents.{is_open, HasNoKey, IsFirstWithKey};
 ghost use Rattle.key_cells.specs.Image.{IsStoreFile};
 ghost use Rattle.key_cells.specs.Opening.{GivesPart, IsBadCell, ReadsCell, ReadsBelow, HasOneEach, IsNumbered, IsNamed};
-ghost use Rattle.key_cells.specs.Causes.{IsCaused, IsDisk};
+ghost use Rattle.key_cells.specs.Causes.{IsOpenFaultOf, IsDisk};
 ghost use Rattle.key_cells.specs.Opened.{Calm};
 ghost use Rattle.key_cells.specs.Layout.{opened_gate, zeros, header};
 
-use crate::Slot;
+use crate::CellState;
 use crate::body::{read_key, wipe};
 use crate::cells::{CELLS, CLOSED, OPENED, place};
 use disk_face::Disk;
@@ -29,23 +29,23 @@ pub fn read_cell<D: Disk>(disk: &mut D, cell: usize, bytes: &mut [u8; 1088]) -> 
     disk.read_at(place(cell), bytes)
 }
 
-/// The cell of a key, among these slots.
+/// The cell of a key, among these states.
 #[tactic(auto, using(crate::proofs::Counts::has_id_open))]
-pub fn find_key(slots: &[Slot], id: u32) -> Option<usize>
-    ensures { MatchOption result (HasNoKey slots.now id) (λ cell. IsFirstWithKey slots.now id cell) }
+pub fn find_key(states: &[CellState], id: u32) -> Option<usize>
+    ensures { MatchOption result (HasNoKey states.now id) (λ cell. IsFirstWithKey states.now id cell) }
 {
-    for (cell, slot) in slots.iter().enumerate() {
-        if slot.has(id) {
+    for (cell, state) in states.iter().enumerate() {
+        if state.has(id) {
             return Some(cell);
         }
     }
     None
 }
 
-// The slot of an open cell with these bytes, as the next that was found; none where it is damaged.
-fn open_slot_of(bytes: &[u8; 1088], before: &[Slot], found: u64) -> Option<Slot>
+// The state of an open cell with these bytes, as the next that was found; none where it is damaged.
+fn open_state_of(bytes: &[u8; 1088], before: &[CellState], found: u64) -> Option<CellState>
     requires { take 1 bytes.now ≡ opened_gate }
-    ensures { MatchOption result (IsBadCell bytes.now before.now) (λ slot. ReadsCell slot bytes.now before.now found) }
+    ensures { MatchOption result (IsBadCell bytes.now before.now) (λ state. ReadsCell state bytes.now before.now found) }
 {
     let Some((attributes, _end)) = read_key(bytes) else {
         return None;
@@ -53,35 +53,35 @@ fn open_slot_of(bytes: &[u8; 1088], before: &[Slot], found: u64) -> Option<Slot>
     let id = attributes.id.0;
     match find_key(before, id) {
         Some(_cell) => None,
-        None => Some(Slot::Open {
+        None => Some(CellState::Open {
             id,
             creation: found,
         }),
     }
 }
 
-// The slot of a cell with these bytes; none where it is damaged.
-fn slot_of(bytes: &[u8; 1088], before: &[Slot], found: u64) -> Option<Slot>
-    ensures { MatchOption result (IsBadCell bytes.now before.now) (λ slot. ReadsCell slot bytes.now before.now found) }
+// The state of a cell with these bytes; none where it is damaged.
+fn state_of(bytes: &[u8; 1088], before: &[CellState], found: u64) -> Option<CellState>
+    ensures { MatchOption result (IsBadCell bytes.now before.now) (λ state. ReadsCell state bytes.now before.now found) }
 {
     if bytes[0] == OPENED {
-        return open_slot_of(bytes, before, found);
+        return open_state_of(bytes, before, found);
     }
     if bytes[0] != CLOSED {
-        return Some(Slot::Unsure);
+        return Some(CellState::Unsure);
     }
     if is_clear(&bytes[1..]) {
-        return Some(Slot::Free);
+        return Some(CellState::Free);
     }
-    Some(Slot::Shut)
+    Some(CellState::Shut)
 }
 
-// How many keys were found, with this slot.
-fn counted(found: u64, slot: &Slot) -> u64
+// How many keys were found, with this state.
+fn counted(found: u64, state: &CellState) -> u64
     requires { found ≤ 512 }
-    ensures { result ≡ found + cond (is_open slot.now) 1 0 }
+    ensures { result ≡ found + cond (is_open state.now) 1 0 }
 {
-    if slot.has_key() { found + 1 } else { found }
+    if state.has_key() { found + 1 } else { found }
 }
 
 // Whether a body is all zeros.
@@ -131,16 +131,16 @@ pub enum OpenFault {
 
 /// Reads the header and the cells, and writes nothing.
 #[tactic(auto, using(crate::proofs::Opened::calm_both))]
-pub fn read_store<D: Disk>(disk: &mut D, slots: &mut Vec<Slot>) -> Result<(), OpenFault>
+pub fn read_store<D: Disk>(disk: &mut D, states: &mut Vec<CellState>) -> Result<(), OpenFault>
     requires size { D.size disk.old ≡ 557120 }
-    requires slots { length slots.old.items ≡ 512 }
+    requires states { length states.old.items ≡ 512 }
     ensures store { OnOk result (IfSome (D.contents disk.old) (λ image. IsStoreFile image)) }
-    ensures read { OnOk result (IfSome (D.contents disk.old) (λ image. ReadsBelow 512 slots.new.items image)) }
-    ensures one { OnOk result (HasOneEach 512 slots.new.items) }
-    ensures numbered { OnOk result (IsNumbered 512 slots.new.items) }
-    ensures named { OnOk result (IsNamed 512 slots.new.items) }
-    ensures slots { length slots.new.items ≡ 512 }
-    ensures cause { IfErr result (λ fault. IfSome (D.contents disk.old) (λ image. IsCaused fault image)) }
+    ensures read { OnOk result (IfSome (D.contents disk.old) (λ image. ReadsBelow 512 states.new.items image)) }
+    ensures one { OnOk result (HasOneEach 512 states.new.items) }
+    ensures numbered { OnOk result (IsNumbered 512 states.new.items) }
+    ensures named { OnOk result (IsNamed 512 states.new.items) }
+    ensures states { length states.new.items ≡ 512 }
+    ensures cause { IfErr result (λ fault. IfSome (D.contents disk.old) (λ image. IsOpenFaultOf fault image)) }
     ensures size { D.size disk.new ≡ 557120 }
     ensures calm { Calm D.Disk disk.old disk.new }
     ensures disk { IfErr result (λ fault. IsDisk fault → Rose (D.faults disk.old) (D.faults disk.new)) }
@@ -153,27 +153,27 @@ pub fn read_store<D: Disk>(disk: &mut D, slots: &mut Vec<Slot>) -> Result<(), Op
         return Err(OpenFault::NotAStore);
     }
     let mut room = [0; 1088];
-    let read = read_slots(disk, slots, &mut room);
+    let read = read_states(disk, states, &mut room);
     wipe(&mut room);
     read
 }
 
 // Reads the cells of a store. The bytes of the last one are left in the room.
 #[tactic(auto, using(crate::proofs::Opened::calm_none, crate::proofs::Opened::calm_one, crate::proofs::Opened::calm_both))]
-fn read_slots<D: Disk>(
+fn read_states<D: Disk>(
     disk: &mut D,
-    slots: &mut Vec<Slot>,
+    states: &mut Vec<CellState>,
     room: &mut [u8; 1088],
 ) -> Result<(), OpenFault>
     requires size { D.size disk.old ≡ 557120 }
-    requires slots { length slots.old.items ≡ 512 }
+    requires states { length states.old.items ≡ 512 }
     requires store { IfSome (D.contents disk.old) (λ image. IsStoreFile image) }
-    ensures read { OnOk result (IfSome (D.contents disk.old) (λ image. ReadsBelow 512 slots.new.items image)) }
-    ensures one { OnOk result (HasOneEach 512 slots.new.items) }
-    ensures numbered { OnOk result (IsNumbered 512 slots.new.items) }
-    ensures named { OnOk result (IsNamed 512 slots.new.items) }
-    ensures slots { length slots.new.items ≡ 512 }
-    ensures cause { IfErr result (λ fault. IfSome (D.contents disk.old) (λ image. IsCaused fault image)) }
+    ensures read { OnOk result (IfSome (D.contents disk.old) (λ image. ReadsBelow 512 states.new.items image)) }
+    ensures one { OnOk result (HasOneEach 512 states.new.items) }
+    ensures numbered { OnOk result (IsNumbered 512 states.new.items) }
+    ensures named { OnOk result (IsNamed 512 states.new.items) }
+    ensures states { length states.new.items ≡ 512 }
+    ensures cause { IfErr result (λ fault. IfSome (D.contents disk.old) (λ image. IsOpenFaultOf fault image)) }
     ensures size { D.size disk.new ≡ 557120 }
     ensures calm { Calm D.Disk disk.old disk.new }
     ensures disk { IfErr result (λ fault. IsDisk fault → Rose (D.faults disk.old) (D.faults disk.new)) }
@@ -184,11 +184,11 @@ fn read_slots<D: Disk>(
             Ok(()) => {}
             Err(Failed) => return Err(OpenFault::Disk),
         }
-        let Some(slot) = slot_of(room, &slots[..cell], found) else {
+        let Some(state) = state_of(room, &states[..cell], found) else {
             return Err(OpenFault::DamagedCell { cell });
         };
-        found = counted(found, &slot);
-        slots[cell] = slot;
+        found = counted(found, &state);
+        states[cell] = state;
     }
     Ok(())
 }

@@ -2,35 +2,35 @@
 ghost use Rattle.std.specs.Prelude.{◌≡◌, ◌≢◌, ◌<◌, ◌≤◌, ◌+◌, List, ℕ, length, set, OnOk, OnErr, IfErr};
 ghost use Rattle.psa_status.specs.Causes.{HasCause};
 ghost use Rattle.disk_face.specs.Disk.{StillTells};
-ghost use Rattle.key_cells.specs.declared.slot.Slot.TheVariants.{Free, Open, Shut, Unsure};
-ghost use Rattle.key_cells.specs.Contents.{Content, Present, Doubtful, Moves, Keeps, StaysFree, cell_slot, content_at, settled_slot, settled_slots};
+ghost use Rattle.key_cells.specs.declared.state.CellState.TheVariants.{Free, Open, Shut, Unsure};
+ghost use Rattle.key_cells.specs.Contents.{Content, Present, Doubtful, Moves, KeepsContents, StaysFree, cell_state, content_at, settled_state, settled_states};
 ghost use Rattle.key_cells.specs.Calls.{StandFor, ChangesCell, Writes, FailsToWrite};
 
-use crate::Slot;
+use crate::CellState;
 use crate::cells::{CLOSED, CellFault, Cells, OPENED, ZEROS, place};
 use disk_face::{Disk, write_through};
 use psa_status::Failed;
 
 impl<D: Disk> Cells<D> {
     // Writes bytes into a cell, and makes sure of them: else a crash could take back a call that was answered. The
-    // directory has this slot for the cell from then on.
+    // directory has this state for the cell from then on.
     fn write_cell(
         &mut self,
         cell: usize,
         at: u64,
         bytes: &[u8],
-        slot: Slot,
+        state: CellState,
     ) -> Result<(), CellFault>
         requires size { D.size self.old.disk ≡ 557120 }
-        requires slots { length self.old.slots.items ≡ 512 }
+        requires states { length self.old.states.items ≡ 512 }
         requires within { cell < 512 }
         requires fits { at + length bytes.now ≤ 557120 }
         ensures size { D.size self.new.disk ≡ 557120 }
-        ensures ok { OnOk result (self.new.slots.items ≡ set self.old.slots.items cell slot) }
-        ensures err { OnErr result (self.new.slots.items ≡ self.old.slots.items) }
-        ensures slots { settled_slot slot ≡ settled_slot (cell_slot self.old.slots.items cell) → settled_slots self.new.slots.items ≡ settled_slots self.old.slots.items }
-        ensures free { cell_slot self.old.slots.items cell ≢ Free → StaysFree self.old.slots.items self.new.slots.items }
-        ensures done { OnOk result (Writes D.Disk self.old self.new at bytes.now (set self.old.slots.items cell slot)) }
+        ensures ok { OnOk result (self.new.states.items ≡ set self.old.states.items cell state) }
+        ensures err { OnErr result (self.new.states.items ≡ self.old.states.items) }
+        ensures states { settled_state state ≡ settled_state (cell_state self.old.states.items cell) → settled_states self.new.states.items ≡ settled_states self.old.states.items }
+        ensures free { cell_state self.old.states.items cell ≢ Free → StaysFree self.old.states.items self.new.states.items }
+        ensures done { OnOk result (Writes D.Disk self.old self.new at bytes.now (set self.old.states.items cell state)) }
         ensures failed { OnErr result (FailsToWrite D.Disk self.old self.new at bytes.now) }
         ensures tells { StillTells (D.contents self.old.disk) (D.contents self.new.disk) }
         ensures cause { HasCause (D.faults self.old.disk) (D.faults self.new.disk) result }
@@ -38,7 +38,7 @@ impl<D: Disk> Cells<D> {
     {
         match write_through(&mut self.disk, at, bytes) {
             Ok(()) => {
-                self.slots[cell] = slot;
+                self.states[cell] = state;
                 Ok(())
             }
             Err(Failed) => Err(CellFault::Disk),
@@ -48,76 +48,81 @@ impl<D: Disk> Cells<D> {
     // Closes the gate of a cell whose body is whole.
     pub(crate) fn close_gate(&mut self, cell: usize) -> Result<(), CellFault>
         requires size { D.size self.old.disk ≡ 557120 }
-        requires slots { length self.old.slots.items ≡ 512 }
+        requires states { length self.old.states.items ≡ 512 }
         requires within { cell < 512 }
-        requires slot { cell_slot self.old.slots.items cell ≡ Unsure }
+        requires state { cell_state self.old.states.items cell ≡ Unsure }
         ensures size { D.size self.new.disk ≡ 557120 }
-        ensures ok { OnOk result (self.new.slots.items ≡ set self.old.slots.items cell Shut) }
-        ensures err { OnErr result (self.new.slots.items ≡ self.old.slots.items) }
-        ensures slots { settled_slots self.new.slots.items ≡ settled_slots self.old.slots.items }
-        ensures free { StaysFree self.old.slots.items self.new.slots.items }
-        ensures keeps { Keeps D.Disk self.old.disk self.new.disk self.old.slots.items self.new.slots.items }
+        ensures ok { OnOk result (self.new.states.items ≡ set self.old.states.items cell Shut) }
+        ensures err { OnErr result (self.new.states.items ≡ self.old.states.items) }
+        ensures states { settled_states self.new.states.items ≡ settled_states self.old.states.items }
+        ensures free { StaysFree self.old.states.items self.new.states.items }
+        ensures keeps { KeepsContents D.Disk self.old.disk self.new.disk self.old.states.items self.new.states.items }
         ensures tells { StillTells (D.contents self.old.disk) (D.contents self.new.disk) }
         ensures cause { HasCause (D.faults self.old.disk) (D.faults self.new.disk) result }
         ensures fault { IfErr result (λ fault. fault ≡ CellFault.Disk) }
     {
-        self.write_cell(cell, place(cell), &[CLOSED], Slot::Shut)
+        self.write_cell(cell, place(cell), &[CLOSED], CellState::Shut)
     }
 
     // Makes a closed cell all zeros.
     pub(crate) fn clear_body(&mut self, cell: usize) -> Result<(), CellFault>
         requires size { D.size self.old.disk ≡ 557120 }
-        requires slots { length self.old.slots.items ≡ 512 }
+        requires states { length self.old.states.items ≡ 512 }
         requires within { cell < 512 }
-        requires slot { cell_slot self.old.slots.items cell ≡ Shut }
+        requires state { cell_state self.old.states.items cell ≡ Shut }
         ensures size { D.size self.new.disk ≡ 557120 }
-        ensures ok { OnOk result (self.new.slots.items ≡ set self.old.slots.items cell Free) }
-        ensures err { OnErr result (self.new.slots.items ≡ self.old.slots.items) }
-        ensures slots { settled_slots self.new.slots.items ≡ settled_slots self.old.slots.items }
-        ensures free { StaysFree self.old.slots.items self.new.slots.items }
-        ensures keeps { Keeps D.Disk self.old.disk self.new.disk self.old.slots.items self.new.slots.items }
+        ensures ok { OnOk result (self.new.states.items ≡ set self.old.states.items cell Free) }
+        ensures err { OnErr result (self.new.states.items ≡ self.old.states.items) }
+        ensures states { settled_states self.new.states.items ≡ settled_states self.old.states.items }
+        ensures free { StaysFree self.old.states.items self.new.states.items }
+        ensures keeps { KeepsContents D.Disk self.old.disk self.new.disk self.old.states.items self.new.states.items }
         ensures tells { StillTells (D.contents self.old.disk) (D.contents self.new.disk) }
         ensures cause { HasCause (D.faults self.old.disk) (D.faults self.new.disk) result }
         ensures fault { IfErr result (λ fault. fault ≡ CellFault.Disk) }
     {
-        self.write_cell(cell, place(cell) + 1, &ZEROS, Slot::Free)
+        self.write_cell(cell, place(cell) + 1, &ZEROS, CellState::Free)
     }
 
     // Writes the body of a closed cell, behind its gate.
     pub(crate) fn write_body(&mut self, cell: usize, body: &[u8; 1087]) -> Result<(), CellFault>
         requires size { D.size self.old.disk ≡ 557120 }
-        requires slots { length self.old.slots.items ≡ 512 }
+        requires states { length self.old.states.items ≡ 512 }
         requires within { cell < 512 }
-        requires slot { cell_slot self.old.slots.items cell ≡ Shut }
+        requires state { cell_state self.old.states.items cell ≡ Shut }
         ensures size { D.size self.new.disk ≡ 557120 }
-        ensures ok { OnOk result (self.new.slots.items ≡ set self.old.slots.items cell Unsure) }
-        ensures err { OnErr result (self.new.slots.items ≡ self.old.slots.items) }
-        ensures slots { settled_slots self.new.slots.items ≡ settled_slots self.old.slots.items }
+        ensures ok { OnOk result (self.new.states.items ≡ set self.old.states.items cell Unsure) }
+        ensures err { OnErr result (self.new.states.items ≡ self.old.states.items) }
+        ensures states { settled_states self.new.states.items ≡ settled_states self.old.states.items }
         ensures keeps { (contents : List Content) → content_at contents cell ≡ Doubtful body.now →
             StandFor D.Disk self.old contents →
-            Moves D.Disk self.old.disk self.new.disk self.old.slots.items self.new.slots.items contents contents }
+            Moves D.Disk self.old.disk self.new.disk self.old.states.items self.new.states.items contents contents }
         ensures tells { StillTells (D.contents self.old.disk) (D.contents self.new.disk) }
         ensures cause { HasCause (D.faults self.old.disk) (D.faults self.new.disk) result }
         ensures fault { IfErr result (λ fault. fault ≡ CellFault.Disk) }
     {
-        self.write_cell(cell, place(cell) + 1, body, Slot::Unsure)
+        self.write_cell(cell, place(cell) + 1, body, CellState::Unsure)
     }
 
     // Opens the gate of a cell whose body is whole.
     pub(crate) fn open_gate(&mut self, cell: usize, id: u32, creation: u64) -> Result<(), CellFault>
         requires size { D.size self.old.disk ≡ 557120 }
-        requires slots { length self.old.slots.items ≡ 512 }
+        requires states { length self.old.states.items ≡ 512 }
         requires within { cell < 512 }
-        requires slot { cell_slot self.old.slots.items cell ≡ Unsure }
+        requires state { cell_state self.old.states.items cell ≡ Unsure }
         ensures size { D.size self.new.disk ≡ 557120 }
-        ensures ok { OnOk result (self.new.slots.items ≡ set self.old.slots.items cell (Open id creation)) }
-        ensures err { OnErr result (self.new.slots.items ≡ self.old.slots.items) }
+        ensures ok { OnOk result (self.new.states.items ≡ set self.old.states.items cell (Open id creation)) }
+        ensures err { OnErr result (self.new.states.items ≡ self.old.states.items) }
         ensures opened { OnOk result ((bytes : List ℕ) → ChangesCell D.Disk self.old self.new cell (Doubtful bytes) (Present bytes)) }
-        ensures failed { OnErr result (Keeps D.Disk self.old.disk self.new.disk self.old.slots.items self.new.slots.items) }
+        ensures failed { OnErr result (KeepsContents D.Disk self.old.disk self.new.disk self.old.states.items self.new.states.items) }
         ensures tells { StillTells (D.contents self.old.disk) (D.contents self.new.disk) }
         ensures cause { HasCause (D.faults self.old.disk) (D.faults self.new.disk) result }
         ensures fault { IfErr result (λ fault. fault ≡ CellFault.Disk) }
     {
-        self.write_cell(cell, place(cell), &[OPENED], Slot::Open { id, creation })
+        self.write_cell(
+            cell,
+            place(cell),
+            &[OPENED],
+            CellState::Open { id, creation },
+        )
     }
 }

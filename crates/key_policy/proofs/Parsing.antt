@@ -7,7 +7,7 @@ use Rattle.alg_encoding.specs.declared.table.Base.{Base}
 use Rattle.alg_encoding.specs.declared.table.Class.TheVariants as class
 use Rattle.alg_encoding.specs.declared.table.Lengths.{Lengths}
 use Rattle.alg_encoding.specs.declared.table.Lengths.TheVariants as lengths
-use Rattle.alg_encoding.specs.Table.{has_length, permits_length, hash_length}
+use Rattle.alg_encoding.specs.Table.{has_length, permits_length, named_hash_length}
 use Rattle.alg_encoding.proofs.Facts.{entry_of-all, base_of-low, tag_length_of-permitted}
 use Rattle.crypto_specs.specs.Prelude.{aes_encrypt, cmac, hmac}
 use Rattle.hash_ops.specs.declared.Hash.{Hash}
@@ -95,8 +95,8 @@ names_hash : (alg : ℕ) (hash : Hash) → (base_of alg % 2 ^ 8 == byte_of hash)
 names_hash alg hash h = by_byte hash (sym (eqb-true (base_of alg % 2 ^ 8) (byte_of hash) h) ∙ base_of-low alg)
   where
     by_byte : (hash : Hash) → byte_of hash ≡ low_byte alg → NamesHash alg hash
-    by_byte Sha224 e = record { digest = ap digest e; length = ap hash_length e; block = ap hash_block_length e }
-    by_byte hash e = record { digest = ap digest e; length = ap hash_length e; block = ap hash_block_length e }
+    by_byte Sha224 e = record { digest = ap digest e; length = ap named_hash_length e; block = ap hash_block_length e }
+    by_byte hash e = record { digest = ap digest e; length = ap named_hash_length e; block = ap hash_block_length e }
 
 -- the MAC of an algorithm, by whether that is CMAC
 abbrev mac_if : Bool → (alg : ℕ) (key m : List ℕ) → List ℕ

@@ -1,6 +1,6 @@
 -- What each change of a slot makes of slots that stand for the keys.
 use Rattle.std.proofs.Common.{Bool, List, None, Option, Some, [], ap, arith, cond, eq-eqb, false, inl, inr, length, refl, replicate, set, sym, true, ℕ, ◌&&◌, ◌+◌, ◌-◌, ◌<◌, ◌==◌, ◌∙◌, ◌≡◌, ◌≢◌}
-use Rattle.key_slots.proofs.Common.{Agrees, Attributes, Empty, Filling, Full, Gains, EndsOnly, HasNumber, IsGone, IsIdleOf, IsLawful, IsLawfulSlot, IsNext, IsSoundStore, IsThereOrNew, IsVolatileKey, KeepsKeys, Key, NoKey, OnFalse, OnTrue, Pairs, Pending, Puts, Slot, SlotHasKey, SlotState, StandsAt, Store, Table, at_each, cases_eq, cases_lt, destroyed_slot, empty_slot, false≢true, filling_slot, find_passes, full_slot, full_within, holds_key, idle_is_full, idle_is_unread, is_empty_state, is_filling, is_full, is_idle, is_last, is_pending, is_volatile, key_is_full, left, named, nat_tests, next_is_unread, next_within, pairs_on, persistence, registered, same, slot_at, slot_at-set_other, slot_at-set_same}
+use Rattle.key_slots.proofs.Common.{Agrees, Attributes, Empty, Filling, Full, Gains, EndsOnly, HasNumber, IsGone, IsIdleOf, IsLawful, IsLawfulSlot, IsNext, IsSoundStore, IsThereOrNew, IsVolatileKey, HasSameKeys, Key, NoKey, OnFalse, OnTrue, Pairs, Pending, Puts, Slot, SlotHasKey, SlotState, StandsAt, Store, Table, at_each, cases_eq, cases_lt, destroyed_slot, empty_slot, false≢true, filling_slot, find_passes, full_slot, full_within, holds_key, idle_is_full, idle_is_unread, is_empty_state, is_filling, is_full, is_idle, is_last, is_pending, is_volatile, key_is_full, left, named, nat_tests, next_is_unread, next_within, pairs_on, persistence, registered, same, slot_at, slot_at-set_other, slot_at-set_same}
 use Rattle.std.specs.FinMap as map
 use Rattle.std.proofs.lemmas.Bool.{and_parts, eqb-true}
 use Rattle.std.proofs.lemmas.List.{get_or-replicate}
@@ -336,7 +336,7 @@ destroys t old new all id i law sound has puts a =
 -- NO SLOT CHANGES
 
 -- the keys stay
-pub quiet : (slots : List Slot) (old new : Store) (all : List Pairs) → Agrees slots old all → KeepsKeys old new → Agrees slots new all
+pub quiet : (slots : List Slot) (old new : Store) (all : List Pairs) → Agrees slots old all → HasSameKeys old new → Agrees slots new all
 quiet slots old new all a keeps = record {
   each = λ k lt. let at = a.each k lt in record {
     held = at.held;

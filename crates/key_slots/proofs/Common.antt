@@ -2,8 +2,8 @@
 pub use Rattle.key_attributes.specs.Checks.{is_lifetime, location, persistence}
 pub use Rattle.key_attributes.specs.declared.Attributes.{Attributes}
 pub use Rattle.key_slots.specs.Holdings.{AreHoldings, Gains, IsHolding, Pairs, named, names, same}
-pub use Rattle.key_slots.specs.Standing.{Agrees, IsGone, IsThereOrNew, IsVolatileKey, KeepsKeys, Puts, SlotHasKey, StandsAt, is_filling, pairs_on}
-pub use Rattle.key_slots.specs.Wiping.{EndsOnly, IsEmptyOrIdle, IsFillingOf, IsIdleOf, IsLastOf, IsTakenOf, Keeps}
+pub use Rattle.key_slots.specs.Standing.{Agrees, IsGone, IsThereOrNew, IsVolatileKey, HasSameKeys, Puts, SlotHasKey, StandsAt, is_filling, pairs_on}
+pub use Rattle.key_slots.specs.Wiping.{EndsOnly, IsEmptyOrIdle, IsFillingOf, IsIdleOf, IsLastOf, IsTakenOf, KeepsSlot}
 pub use Rattle.slot_states.specs.declared.SlotState.{SlotState}
 pub use Rattle.slot_states.specs.declared.SlotState.TheVariants.{Empty, Filling, Full, Pending}
 pub use Rattle.slot_table.proofs.AtSlots.{at_each, filling_within, find_passes, full_within, idle_is_full, idle_is_unread, key_is_full, next_is_unread, next_within, read_within, slot_at-set_other, slot_at-set_same}

@@ -2,15 +2,15 @@
 
 -- a slot keeps all
 use Rattle.std.proofs.Common.{Bool, List, Some, ap, cond, false, find, inl, inr, length, refl, set, true, ℕ, ⊎_elim, ◌-◌, ◌<◌, ◌∙◌, ◌≡◌, ◌≢◌, ◌⊎◌}
-use Rattle.key_slots.proofs.Common.{EndsOnly, IsEmptyAt, IsEmptyOrIdle, IsLastOf, IsLawful, IsNext, Keeps, NoneEmpty, Slot, Table, cases_eq, destroyed_slot, empty_slot, find_passes, full_within, holds_key, is_idle, is_last, key_is_full, left, slot_at, slot_at-set_other, slot_at-set_same}
+use Rattle.key_slots.proofs.Common.{EndsOnly, IsEmptyAt, IsEmptyOrIdle, IsLastOf, IsLawful, IsNext, KeepsSlot, NoneEmpty, Slot, Table, cases_eq, destroyed_slot, empty_slot, find_passes, full_within, holds_key, is_idle, is_last, key_is_full, left, slot_at, slot_at-set_other, slot_at-set_same}
 
-pub keeps_all : (s : Slot) → Keeps s s
+pub keeps_all : (s : Slot) → KeepsSlot s s
 keeps_all s = record { state = refl; creation = refl; attributes = refl; buffer = refl }
 
-same_keeps : (old new : Slot) → new ≡ old → Keeps old new
+same_keeps : (old new : Slot) → new ≡ old → KeepsSlot old new
 same_keeps old new same = rw same (keeps_all old)
 
-keeps_on : (a b c : Slot) → Keeps a b → Keeps b c → Keeps a c
+keeps_on : (a b c : Slot) → KeepsSlot a b → KeepsSlot b c → KeepsSlot a c
 keeps_on a b c first then = record {
   state = then.state ∙ first.state;
   creation = then.creation ∙ first.creation;
@@ -23,7 +23,7 @@ pub ends_none : (slots : List Slot) (allowed : ℕ → Slot → Type 0) → Ends
 ends_none slots allowed = λ k lt. inl (keeps_all (slot_at slots k))
 
 -- a slot that is set ends alone
-pub ends_one : (slots : List Slot) (i : ℕ) (s : Slot) (allowed : ℕ → Slot → Type 0) → (Keeps (slot_at slots i) s ⊎ allowed i (slot_at slots i)) → i < length slots → EndsOnly slots (set slots i s) allowed
+pub ends_one : (slots : List Slot) (i : ℕ) (s : Slot) (allowed : ℕ → Slot → Type 0) → (KeepsSlot (slot_at slots i) s ⊎ allowed i (slot_at slots i)) → i < length slots → EndsOnly slots (set slots i s) allowed
 ends_one slots i s allowed here within = λ k lt.
     ⊎_elim
     (λ (same : k ≡ i). rw (same, slot_at-set_same slots i s within) here)
@@ -32,11 +32,11 @@ ends_one slots i s allowed here within = λ k lt.
 
 -- one call ends slots, and then another does
 pub ends_then : (old mid new : List Slot) (first then both : ℕ → Slot → Type 0) → EndsOnly old mid first → EndsOnly mid new then →
-    ((i : ℕ) → first i (slot_at old i) → both i (slot_at old i)) → ((i : ℕ) → Keeps (slot_at old i) (slot_at mid i) → then i (slot_at mid i) → both i (slot_at old i)) → EndsOnly old new both
+    ((i : ℕ) → first i (slot_at old i) → both i (slot_at old i)) → ((i : ℕ) → KeepsSlot (slot_at old i) (slot_at mid i) → then i (slot_at mid i) → both i (slot_at old i)) → EndsOnly old new both
 ends_then old mid new first then both one two by_first by_then = λ i lt.
     ⊎_elim
-    (λ (kept : Keeps (slot_at old i) (slot_at mid i)). ⊎_elim
-    (λ (on : Keeps (slot_at mid i) (slot_at new i)). inl (keeps_on (slot_at old i) (slot_at mid i) (slot_at new i) kept on))
+    (λ (kept : KeepsSlot (slot_at old i) (slot_at mid i)). ⊎_elim
+    (λ (on : KeepsSlot (slot_at mid i) (slot_at new i)). inl (keeps_on (slot_at old i) (slot_at mid i) (slot_at new i) kept on))
     (λ (ended : then i (slot_at mid i)). inr (by_then i kept ended))
     (two i lt))
     (λ (ended : first i (slot_at old i)). inr (by_first i ended))
@@ -55,7 +55,7 @@ next_taken t i next =
 -- a lease is given back
 pub leave_ends : (slots : List Slot) (i : ℕ) → i < length slots → EndsOnly slots (set slots i (left (slot_at slots i))) (IsLastOf i)
 leave_ends slots i within = ends_one slots i (left (slot_at slots i)) (IsLastOf i) (here (slot_at slots i) (is_last (slot_at slots i)) refl) within where
-  here : (s : Slot) (b : Bool) → is_last s ≡ b → Keeps s (cond b empty_slot (record s { readers = s.readers - 1 })) ⊎ IsLastOf i i s
+  here : (s : Slot) (b : Bool) → is_last s ≡ b → KeepsSlot s (cond b empty_slot (record s { readers = s.readers - 1 })) ⊎ IsLastOf i i s
   here s true last = inr (refl, last)
   here s false more = inl (record { state = refl; creation = refl; attributes = refl; buffer = refl })
 

@@ -49,7 +49,7 @@ pub record Agrees (slots : List Slot) (store : Store) (all : List Pairs) : Type 
       (i : ℕ) × (i < 384) × (holds_key id (slot_at slots i) ≡ true)
 
 -- the second store has the same keys, and no fewer creation numbers were given out
-pub record KeepsKeys (old new : Store) : Type 0 where
+pub record HasSameKeys (old new : Store) : Type 0 where
   pub keys : new.keys ≡ old.keys
   pub given : next_number old ≤ next_number new
 

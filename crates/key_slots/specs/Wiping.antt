@@ -4,7 +4,7 @@ use Rattle.slot_states.specs.declared.SlotState.TheVariants.{Filling}
 use Rattle.slot_table.specs.Slots.{Slot, slot_at, is_empty_state, is_idle, is_last, holds_key}
 
 -- a slot has what it had; how many read it may change
-pub record Keeps (old new : Slot) : Type 0 where
+pub record KeepsSlot (old new : Slot) : Type 0 where
   pub state : new.state ≡ old.state
   pub creation : new.creation ≡ old.creation
   pub attributes : new.attributes ≡ old.attributes
@@ -12,7 +12,7 @@ pub record Keeps (old new : Slot) : Type 0 where
 
 -- each slot keeps what it has, but for those that may end, by their numbers and by what they were
 abbrev pub EndsOnly : (old new : List Slot) (allowed : ℕ → Slot → Type 0) → Type 0
-EndsOnly old new allowed = (i : ℕ) → i < 384 → Keeps (slot_at old i) (slot_at new i) ⊎ allowed i (slot_at old i)
+EndsOnly old new allowed = (i : ℕ) → i < 384 → KeepsSlot (slot_at old i) (slot_at new i) ⊎ allowed i (slot_at old i)
 
 -- it is this slot, and it waits for its key
 abbrev pub IsFillingOf : (slot i : ℕ) → Slot → Type 0

@@ -3,7 +3,7 @@ ghost use Rattle.std.specs.Prelude.{◌≤◌, ◌<◌, ℕ, List, [], replicate
 ghost use Rattle.slot_table.specs.Slots.{Slot, CanReserve, IsLawful, Table, empty_slot, slot_at};
 ghost use Rattle.store_model.specs.Prelude.{Store, IsSoundStore};
 ghost use Rattle.key_slots.specs.Holdings.{Pairs, AreHoldings};
-ghost use Rattle.key_slots.specs.Standing.{Agrees, KeepsKeys, IsVolatileKey};
+ghost use Rattle.key_slots.specs.Standing.{Agrees, HasSameKeys, IsVolatileKey};
 ghost use Rattle.std.specs.FinMap as map;
 
 /// A slot is always found: of 384, the keys of sixteen callers bind at most 256, their fillings 16, and their leases 80.
@@ -20,7 +20,7 @@ pub fn few_read_a_slot()
 
 /// Slots that stand for a store stand for each one with the same keys.
 pub fn keys_stay()
-    ensures { (slots : List Slot) (old new : Store) (all : List Pairs) → Agrees slots old all → KeepsKeys old new → Agrees slots new all }
+    ensures { (slots : List Slot) (old new : Store) (all : List Pairs) → Agrees slots old all → HasSameKeys old new → Agrees slots new all }
 {}
 
 /// Empty slots stand for a store without volatile keys, and for callers that have nothing out.

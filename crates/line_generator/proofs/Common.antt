@@ -1,7 +1,7 @@
 -- What several proofs of this crate cite of its words, and of other crates'.
 pub use Rattle.hex.specs.Hex.{encode_lower}
 pub use Rattle.key_attributes.specs.declared.Attributes.{Attributes}
-pub use Rattle.line_generator.specs.Generator.{call, counted, fields, generator_line, generator_lines, import_fields}
+pub use Rattle.line_generator.specs.Generator.{call, rising_bytes, fields, generator_line, generator_lines, import_fields}
 pub use Rattle.line_generator.specs.Summary.{count_line}
 unfoldable pub use Rattle.line_generator.specs.Summary.{summary_of}
 pub use Rattle.psa_status.specs.Rows.{Rows, first_row, unless}
@@ -18,4 +18,4 @@ pub use Rattle.std.proofs.lemmas.List.Elements.{All-head, All-push, All-tail}
 pub use Rattle.std.proofs.lemmas.List.Sums.{sum-map, sum_by-cons, sum_by_more}
 pub use Rattle.std.specs.List.{list_any, range_with_len}
 pub use Rattle.store_model.proofs.Sound.{put, room_of, taken}
-pub use Rattle.store_model.specs.Prelude.{CipherEncrypt, Computed, Destroy, Entry, Export, Identifier, Import, Key, MacCompute, OnStore, Outcome, Own, Plain, Reply, Request, Served, Service, Settings, Store, bytes_of, cipher_usage, compute_rows, computed_unless, count_persistent, created, created_unless, decided, destroy_rows, destroyed, encrypt_rows, encrypted, export_reply, export_rows, file_rows, given, has_secure_element, identified, is_ctr, is_volatile, is_volatile_of, iv_length, live_volatile, mac_reply, mac_usage, made_of, mode_of, new_id, new_key, new_own, on_store, outcome_of, output_bytes, own_of, recorded_of, refused, replies, reply_unless, room_for_key_rows, serve, use_rows, with_computed, with_drawn}
+pub use Rattle.store_model.specs.Prelude.{CipherEncrypt, Computed, Destroy, Entry, Export, Identifier, Import, Key, MacCompute, OnStore, Outcome, Own, Plain, Reply, Request, Served, Service, Settings, Store, bytes_of_key, cipher_usage, compute_rows, computed_unless, count_persistent, created, created_unless, decided, destroy_rows, destroyed, encrypt_rows, encrypted, export_reply, export_rows, file_rows, given, has_secure_element, identified, is_ctr, is_volatile, is_volatile_of, iv_length, live_volatile, mac_reply, mac_usage, made_of, mode_of, new_id, new_key, new_own, on_store, outcome_of, output_bytes, own_of, recorded_of, refused, replies, reply_unless, room_for_key_rows, serve, use_rows, with_computed, with_drawn}

@@ -1,8 +1,8 @@
 -- The generator's lines in any order: each session is answered as if it were alone.
 use Rattle.std.proofs.Common.{All, Bool, List, [], ap, codes, cond, count_by, eq-eqb, eqb-true, false, filter, flat_map, get_or, inl, map, not, refl, subst, suc, sym, true, zero, ℕ, ◌%◌, ◌*◌, ◌++◌, ◌+◌, ◌-◌, ◌/◌, ◌==◌, ◌∙◌, ◌∷◌, ◌≡◌}
-use Rattle.line_generator.proofs.Common.{All-head, All-tail, AreCalls, Entry, Plain, Reply, ReplyLine, Request, Served, Service, Turn, attributes_at, call, count_line, counted, encode_lower, fields, generator_line, generator_lines, id_given, import_fields, is_success, length-map, lines_of, map-append, numbered, outcome_of, output_bytes, range_with_len, replies_to, request_of, serve, sha256, sum_by-cons, summary_of, turns_from, turns_of, unranked_text}
+use Rattle.line_generator.proofs.Common.{All-head, All-tail, AreCalls, Entry, Plain, Reply, ReplyLine, Request, Served, Service, Turn, attributes_at, call, count_line, rising_bytes, encode_lower, fields, generator_line, generator_lines, id_given, import_fields, is_success, length-map, lines_of, map-append, numbered, outcome_of, output_bytes, range_with_len, replies_to, request_of, serve, sha256, sum_by-cons, summary_of, turns_from, turns_of, unranked_text}
 use Rattle.std.proofs.lemmas.Bool.{eqb-false}
-use Rattle.script_lang.specs.declared.commands.Command.TheVariants.{Key, SinglePart}
+use Rattle.script_lang.specs.declared.commands.ScriptCommand.TheVariants.{Key, SinglePart}
 use Rattle.script_lang.specs.declared.store_commands.KeyCommand.TheVariants.{Import, Export, Destroy}
 use Rattle.script_lang.specs.declared.store_commands.SinglePartCommand.TheVariants.{CipherEncrypt, MacCompute}
 use Rattle.script_lang.specs.declared.script.KeyWord.TheVariants.{Given, Line}
@@ -70,7 +70,7 @@ key_line : (i : ℕ) → KeyLine (generator_line i)
 key_line i =
     let place = i / 4 in
     let kind = place % 5 in
-    either (kind == 0) _ _ (asks_import (counted i 16)) (either (kind == 1) _ _ (asks_encrypt (place - 1) 0x04404000 (counted (3 * i) 64))
+    either (kind == 0) _ _ (asks_import (rising_bytes i 16)) (either (kind == 1) _ _ (asks_encrypt (place - 1) 0x04404000 (rising_bytes (3 * i) 64))
     (either (kind == 2) _ _ (asks_export (place - 2)) (either (kind == 3) _ _ (asks_mac (place - 3) 0x03c00200 (0 ∷ [])) (asks_destroy (place - 4)))))
 
 key_lines : (session count : ℕ) → Each KeyLine (lines_of session (generator_lines count))

@@ -1,6 +1,6 @@
 -- A call of a caller on its own volatile keys: what it answers, and what it leaves, is decided by what the caller sees.
 use Rattle.std.proofs.Common.{Bool, Err, List, None, Ok, Option, Result, Some, [], ap, arith, cond, eqb-true, false, inl, inr, is_some, length, not, refl, slice_set, subst, sym, true, ℕ, ◌&&◌, ◌*◌, ◌+◌, ◌-◌, ◌/◌, ◌<◌, ◌==◌, ◌^◌, ◌∙◌, ◌∷◌, ◌≡◌}
-use Rattle.line_generator.proofs.Common.{Attributes, CipherEncrypt, Computed, Destroy, Export, Identifier, Import, InvalidHandle, Key, MacCompute, OnStore, Outcome, Own, Plain, Request, Served, Service, Settings, Status, Store, Success, bytes_of, cipher_usage, compute_rows, computed_unless, created, created_unless, decided, destroy_rows, destroyed, encrypt_rows, encrypted, export_reply, export_rows, first_row, given, id_given, is_ctr, is_volatile, is_volatile_of, iv_length, live_volatile, mac_reply, mac_usage, made_of, mode_of, nat_tests, new_id, new_key, on_store, put, recorded_of, refused, replies, reply_unless, room_for_key_rows, room_of, serve, taken, use_rows, with_computed}
+use Rattle.line_generator.proofs.Common.{Attributes, CipherEncrypt, Computed, Destroy, Export, Identifier, Import, InvalidHandle, Key, MacCompute, OnStore, Outcome, Own, Plain, Request, Served, Service, Settings, Status, Store, Success, bytes_of_key, cipher_usage, compute_rows, computed_unless, created, created_unless, decided, destroy_rows, destroyed, encrypt_rows, encrypted, export_reply, export_rows, first_row, given, id_given, is_ctr, is_volatile, is_volatile_of, iv_length, live_volatile, mac_reply, mac_usage, made_of, mode_of, nat_tests, new_id, new_key, on_store, put, recorded_of, refused, replies, reply_unless, room_for_key_rows, room_of, serve, taken, use_rows, with_computed}
 use Rattle.std.specs.FinMap as map
 use Rattle.std.proofs.lemmas.Bool.{cond-false, false_from_ne_true}
 use Rattle.std.proofs.lemmas.List.{length-set}
@@ -59,7 +59,7 @@ export_plain None room = refl
 export_plain (Some key) room = refl
 
 used_by : Bool → Class → (usage alg : ℕ) → (List ℕ → Computed) → Option Key → Computed
-used_by on_device class usage alg compute found = computed_unless (first_row (use_rows on_device class usage alg found)) (compute (bytes_of found))
+used_by on_device class usage alg compute found = computed_unless (first_row (use_rows on_device class usage alg found)) (compute (bytes_of_key found))
 
 used_plain : (on_device : Bool) (class : Class) (usage alg : ℕ) (compute : List ℕ → Computed) (found : Option Key) →
     used_by on_device class usage alg compute found ≡ used_by on_device class usage alg compute (plain found)
@@ -282,10 +282,10 @@ given_computed (Some s) computed e = refl
 pub given_own : (caller : ℕ) (a : Service) (call : KeyCall) → IsOwn caller call → OwnId caller (id_given (serve a caller (asked call) Plain).reply.output)
 given_own caller a (Imports attributes bytes) own =
     created_or a.store caller bytes (recorded_of a.store caller attributes (length bytes)) (λ out. OwnId caller (id_given out.reply.output)) (λ kept e. inr (new_of a caller attributes bytes own kept e)) (λ s. inl refl)
-given_own caller a (Exports id room) own = inl (given_bytes (first_row (export_rows (map.get a.store.keys id) room)) (bytes_of (map.get a.store.keys id)))
+given_own caller a (Exports id room) own = inl (given_bytes (first_row (export_rows (map.get a.store.keys id) room)) (bytes_of_key (map.get a.store.keys id)))
 given_own caller a (Signs id alg input room) own =
     let found : Option Key = map.get a.store.keys id in
-    inl (given_computed (first_row (use_rows true Mac (mac_usage false) alg found)) (replies (mac_reply alg (bytes_of found) input room)) (given_bytes (first_row (compute_rows alg (length input) room)) _))
+    inl (given_computed (first_row (use_rows true Mac (mac_usage false) alg found)) (replies (mac_reply alg (bytes_of_key found) input room)) (given_bytes (first_row (compute_rows alg (length input) room)) _))
 given_own caller a (Encrypts id alg input room) own =
     let found : Option Key = map.get a.store.keys id in
     let mode = mode_of alg in

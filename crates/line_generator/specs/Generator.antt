@@ -2,8 +2,8 @@
 use Rattle.std.specs.Prelude.{ℕ, ◌+◌, ◌-◌, ◌*◌, ◌/◌, ◌%◌, ◌==◌, if◌then◌else◌, List, [], ◌∷◌, map}
 use Rattle.std.specs.List.{range_with_len}
 use Rattle.script_lang.specs.Prelude.{Fields}
-use Rattle.script_lang.specs.declared.commands.Command.{Command}
-use Rattle.script_lang.specs.declared.commands.Command.TheVariants.{Key, SinglePart}
+use Rattle.script_lang.specs.declared.commands.ScriptCommand.{ScriptCommand}
+use Rattle.script_lang.specs.declared.commands.ScriptCommand.TheVariants.{Key, SinglePart}
 use Rattle.script_lang.specs.declared.store_commands.KeyCommand.TheVariants.{Import, Export, Destroy}
 use Rattle.script_lang.specs.declared.store_commands.SinglePartCommand.TheVariants.{CipherEncrypt, MacCompute}
 use Rattle.script_lang.specs.declared.fields.Field.TheVariants as field
@@ -14,11 +14,11 @@ use Rattle.script_lang.specs.declared.script.ScriptCall.{ScriptCall}
 use Rattle.script_lang.specs.declared.script.ScriptLine.{ScriptLine}
 
 -- so many bytes, one up from the other, from a number on
-abbrev pub counted : (first count : ℕ) → List ℕ
-counted first count = map (λ t. (first + t) % 256) (range_with_len 0 count)
+abbrev pub rising_bytes : (first count : ℕ) → List ℕ
+rising_bytes first count = map (λ t. (first + t) % 256) (range_with_len 0 count)
 
 -- a call without a handle
-abbrev pub call : Command → KeyWord → Fields → ScriptCall
+abbrev pub call : ScriptCommand → KeyWord → Fields → ScriptCall
 call command key fields = record { command = command; key = key; handle = 1; fields = fields }
 
 -- the fields of a call with an algorithm and data
@@ -34,8 +34,8 @@ import_fields bytes = (field.Type, Short 0x2400) ∷ (field.Usage, Word 0x101) �
 -- and `destroy $k`. The key's line stands `kind` places before this one among its session's.
 abbrev pub generator_call : (i place kind : ℕ) → ScriptCall
 generator_call i place kind =
-    if kind == 0 then call (Key Import) (Given (record { 0 = 0 })) (import_fields (counted i 16))
-    else if kind == 1 then call (SinglePart CipherEncrypt) (Line (place - 1)) (fields 0x04404000 (counted (3 * i) 64))
+    if kind == 0 then call (Key Import) (Given (record { 0 = 0 })) (import_fields (rising_bytes i 16))
+    else if kind == 1 then call (SinglePart CipherEncrypt) (Line (place - 1)) (fields 0x04404000 (rising_bytes (3 * i) 64))
     else if kind == 2 then call (Key Export) (Line (place - 2)) []
     else if kind == 3 then call (SinglePart MacCompute) (Line (place - 3)) (fields 0x03c00200 (0 ∷ []))
     else call (Key Destroy) (Line (place - 4)) []

@@ -1,13 +1,13 @@
 // The lines that a run makes for itself.
 ghost use Rattle.std.specs.Prelude.{◌≡◌, ◌≤◌, ◌<◌, ◌+◌, ◌*◌, ◌/◌, ◌%◌, ◌^◌, IfOk, All, length};
 ghost use Rattle.script_lang.specs.Prelude.{IsOfSession};
-ghost use Rattle.line_generator.specs.Generator.{counted, call, fields, import_fields, generator_call, generator_line, generator_lines};
+ghost use Rattle.line_generator.specs.Generator.{rising_bytes, call, fields, import_fields, generator_call, generator_line, generator_lines};
 
 use key_attributes::KeyId;
 use psa_status::Memory;
 use script_lang::{
-    ByteList, Command, Field, FieldValue, Fields, KeyCommand, KeyWord, ScriptCall, ScriptLine,
-    SinglePartCommand,
+    ByteList, Field, FieldValue, Fields, KeyCommand, KeyWord, ScriptCall, ScriptCommand,
+    ScriptLine, SinglePartCommand,
 };
 use service_calls::Op;
 use std::alloc::Global;
@@ -19,7 +19,7 @@ const CMAC: u32 = 0x03c0_0200;
 /// So many bytes, one up from the other, from a number on.
 fn counted(alloc: Global, first: u32, count: u32) -> Result<ByteList, Memory>
     requires { first + count < 2 ^ 32 }
-    ensures { IfOk result (λ bytes. bytes ≡ counted first count) }
+    ensures { IfOk result (λ bytes. bytes ≡ rising_bytes first count) }
 {
     let mut bytes = Vec::new(alloc);
     for t in 0..count {
@@ -59,7 +59,7 @@ fn import_fields(alloc: Global, bytes: ByteList) -> Result<Fields, Memory>
     }
 }
 
-fn call(command: Command, key: KeyWord, fields: Fields) -> ScriptCall
+fn call(command: ScriptCommand, key: KeyWord, fields: Fields) -> ScriptCall
     ensures { result ≡ call command key fields }
 {
     ScriptCall {
@@ -81,31 +81,31 @@ fn generated_call(alloc: Global, number: u32, place: u32) -> Result<ScriptCall, 
         0 => {
             let fields = import_fields(alloc, counted(alloc, number, 16)?)?;
             let none = KeyWord::Given(KeyId(0));
-            Ok(call(Command::Key(KeyCommand::Import), none, fields))
+            Ok(call(ScriptCommand::Key(KeyCommand::Import), none, fields))
         }
         1 => {
             let fields = fields(alloc, CBC_NO_PADDING, counted(alloc, 3 * number, 64)?)?;
             Ok(call(
-                Command::SinglePart(SinglePartCommand::CipherEncrypt),
+                ScriptCommand::SinglePart(SinglePartCommand::CipherEncrypt),
                 key,
                 fields,
             ))
         }
         2 => Ok(call(
-            Command::Key(KeyCommand::Export),
+            ScriptCommand::Key(KeyCommand::Export),
             key,
             Fields::of(Vec::new(alloc)),
         )),
         3 => {
             let fields = fields(alloc, CMAC, ByteList::from_slice(alloc, &[0])?)?;
             Ok(call(
-                Command::SinglePart(SinglePartCommand::MacCompute),
+                ScriptCommand::SinglePart(SinglePartCommand::MacCompute),
                 key,
                 fields,
             ))
         }
         _ => Ok(call(
-            Command::Key(KeyCommand::Destroy),
+            ScriptCommand::Key(KeyCommand::Destroy),
             key,
             Fields::of(Vec::new(alloc)),
         )),

@@ -26,7 +26,7 @@ module _ {D A C : Type 0} (w : World D A C)
         let holds = (s.each start is).holds in
         let now = s.tells ∙ tells in
         subst (λ (m : model.Store). HasKeyOrZeros (durable_keys m) cell image) (holds.replayed (inl now))
-        (sure_cells w.disk disk store.file.cells.slots.items (durable_keys holds.model) (course_of start (entries_of turns)).doubt (holds.file now) (holds.sure now none) image (only_now disk image left) cell lt);
+        (sure_cells w.disk disk store.file.cells.states.items (durable_keys holds.model) (course_of start (entries_of turns)).doubt (holds.file now) (holds.sure now none) image (only_now disk image left) cell lt);
   }
 
   pub closed : (store : Store D A C) (passes : ℕ) (turns : List (Option Entry)) (all : List Pairs) (accounts : List (Account Entry)) → store.opened ≡ w.opened → passes ≡ 16 →

@@ -1,6 +1,6 @@
 -- What the secure element has answered, and what a look for its key found.
 use Rattle.std.proofs.Common.{List, Option, Result, is_some, ℕ, ◌∙◌, ◌≡◌}
-use Rattle.locked_store.proofs.Common.{IsAnswered}
+use Rattle.locked_store.proofs.Common.{IsElementAnswered}
 use Rattle.driver_dispatch.specs.Held.{HeldKeys}
 use Rattle.secure_element_calls.specs.declared.calls.ElementCall.{ElementCall}
 use Rattle.secure_element_calls.specs.declared.calls.NotComputed.{NotComputed}
@@ -8,7 +8,7 @@ use Rattle.store_model.specs.Prelude.{Store}
 
 -- devices that tell as much
 pub as_known : (held other : Option HeldKeys) (id : ℕ) (call : ElementCall) (old new : List ℕ) (result : Result ℕ NotComputed) (m : Store) → is_some held ≡ is_some other →
-    IsAnswered held id call old new result m → IsAnswered other id call old new result m
+    IsElementAnswered held id call old new result m → IsElementAnswered other id call old new result m
 as_known held other id call old new result m same a = record {
   decided = a.decided;
   reply = λ tells. a.reply (same ∙ tells);

@@ -1,6 +1,6 @@
 -- What one caller has out, among what all have.
 use Rattle.std.proofs.Common.{Bool, List, [], ap, arith, cond, count_by, eqb, false, get_or, get_or-set_same, length, length-set, nat_lt, refl, set, subst, suc, true, zero, ℕ, ◌&&◌, ◌+◌, ◌-◌, ◌<◌, ◌==◌, ◌∙◌, ◌∷◌, ◌≡◌, ◌≤◌}
-use Rattle.locked_store.proofs.Common.{AreHoldings, Gains, HasNoFilling, HasRoomForLease, IsHolding, Pairs, named, names, own_of, same, with_own, without_pair}
+use Rattle.locked_store.proofs.Common.{AreHoldings, Gains, HasNoFilling, HasRoomForLease, IsHolding, Pairs, named, names, held_by, same, with_held_by, without_pair}
 use Rattle.std.proofs.lemmas.Bool.Decides.{nat_tests}
 use Rattle.std.proofs.lemmas.List.Elements.{All-get_or, All-set}
 use Rattle.std.proofs.lemmas.List.Sums.{sum_by-cons}
@@ -10,24 +10,24 @@ named_set i n j [] own lt = absurd (omega arith)
 named_set i n zero (x ∷ xs) own lt = omega arith
 named_set i n (suc j) (x ∷ xs) own lt = let r = named_set i n j xs own (omega arith) in omega arith
 
-module _ (all : List Pairs) (n : ℕ) (own : Pairs) (first : 1 ≤ n) (inside : n ≤ length all) (is : own_of all n ≡ own) where
+module _ (all : List Pairs) (n : ℕ) (own : Pairs) (first : 1 ≤ n) (inside : n ≤ length all) (is : held_by all n ≡ own) where
   within : n - 1 < length all
   within = omega arith
 
   -- one more pair
-  pub gains : (p : ℕ × ℕ) → Gains all (with_own all n (p ∷ own)) p
+  pub gains : (p : ℕ × ℕ) → Gains all (with_held_by all n (p ∷ own)) p
   gains p i k = let r = named_set i k (n - 1) all (p ∷ own) within in let e = ap (names i k) is in omega arith
 
   -- and one less
-  pub loses : (p : ℕ × ℕ) → ((i k : ℕ) → names i k own ≡ names i k (without_pair p own) + same i k p) → Gains (with_own all n (without_pair p own)) all p
+  pub loses : (p : ℕ × ℕ) → ((i k : ℕ) → names i k own ≡ names i k (without_pair p own) + same i k p) → Gains (with_held_by all n (without_pair p own)) all p
   loses p splits i k = let r = named_set i k (n - 1) all (without_pair p own) within in let e = ap (names i k) is in let s = splits i k in omega arith
 
 -- what the caller n may have, where it has it
-pub holding_of : (all : List Pairs) (n : ℕ) (own : Pairs) → 1 ≤ n → n ≤ length all → AreHoldings (with_own all n own) → IsHolding own
+pub holding_of : (all : List Pairs) (n : ℕ) (own : Pairs) → 1 ≤ n → n ≤ length all → AreHoldings (with_held_by all n own) → IsHolding own
 holding_of all n own first inside are = let lt : n - 1 < length all = omega arith in
     subst IsHolding (get_or-set_same all (n - 1) own [] lt) (All-get_or IsHolding (set all (n - 1) own) (n - 1) [] (let z = length-set all (n - 1) own in omega arith) are.each)
 
-pub with_holding : (all : List Pairs) (n : ℕ) (own : Pairs) → IsHolding own → AreHoldings all → AreHoldings (with_own all n own)
+pub with_holding : (all : List Pairs) (n : ℕ) (own : Pairs) → IsHolding own → AreHoldings all → AreHoldings (with_held_by all n own)
 with_holding all n own holding are = record { callers = let z = length-set all (n - 1) own in let y = are.callers in omega arith; each = All-set IsHolding all (n - 1) own holding are.each }
 
 one_pair : (i k : ℕ) (p q : ℕ × ℕ) → eqb p.0 q.0 ≡ true → eqb p.1 q.1 ≡ true → same i k q ≡ same i k p

@@ -1,6 +1,6 @@
 -- The store before a turn and after it, and what was decided between.
 use Rattle.std.proofs.Common.{List, None, Option, Some, [], ap, append-nil, arith, false, inl, inr, is_some, length, refl, subst, sym, true, ℕ, ⊎_elim, ◌++◌, ◌∙◌, ◌∷◌, ◌≡◌, ◌≤◌}
-use Rattle.locked_store.proofs.Common.{AllByRecursion, AreHoldings, AreRising, DecidesAfter, DecidesBefore, Entry, FaultMark, HoldsHistory, IsAt, IsBegun, IsCaller, IsCaused, IsClear, IsEntered, IsEntry, IsHolding, IsLater, IsLegal, IsReading, IsStartOf, IsTold, Opened, Opening, OwnCalls, Pairs, ReadsKey, Request, Seat, Service, StandsFor, Store, ToldBy, View, World, after_change, after_turn, caller_of, entries_of, id_read, may_change_keys, opening_of, option_list, replay, told_before, turn_entry, with_own}
+use Rattle.locked_store.proofs.Common.{AllByRecursion, AreHoldings, AreRising, DecidesAfter, DecidesBefore, Entry, FaultMark, HoldsHistory, IsAt, IsBegun, IsCaller, IsCaused, IsClear, IsEntered, IsEntry, IsHolding, IsLater, IsLegal, IsReading, IsStartOf, IsTold, Opened, Opening, OwnCalls, Pairs, ReadsKey, Request, Seat, Service, StandsFor, Store, ToldBy, View, World, after_change, after_turn, caller_of, entries_of, id_read, may_change_keys, opening_of, option_list, replay, told_before, turn_entry, with_held_by}
 use Rattle.store_model.specs.Store as model
 use Rattle.locked_store.specs.declared.changes.Change.{Change}
 use Rattle.locked_store.proofs.Owning.{holding_of}
@@ -97,21 +97,21 @@ module _ {D A C : Type 0} (w : World D A C) where
       (b : IsBegun w v p entries) where
     -- the pass after its turn
     pub at_after : (q : Seat (Option V) (View Entry (Opened D A C))) (e : Option Entry) (own : Pairs) (store : Store D A C) → q.table_id ≡ p.table_id → q.me ≡ (after_turn p.me.0 e own, []) → OwnCalls caller_of q.me.0 →
-        store.opened ≡ opened → Here store (entries_of p.me.0.seen ++ option_list e) (with_own p.me.0.holdings p.me.0.number own) → IsAt w q
+        store.opened ≡ opened → Here store (entries_of p.me.0.seen ++ option_list e) (with_held_by p.me.0.holdings p.me.0.number own) → IsAt w q
     at_after q e own store table me calls same s = let is : q.me.0 ≡ after_turn p.me.0 e own = ap (λ m. m.0) me in record {
       table = table ∙ b.table;
       outside = (ap (λ (x : View Entry (Opened D A C)). x.ticket) is, ap (λ (x : View Entry (Opened D A C)). x.in_turn) is, ap (λ m. m.1) me);
       based = ap (λ (x : View Entry (Opened D A C)). x.base) is ∙ b.based;
       first = let z = ap (λ (x : View Entry (Opened D A C)). x.number) is in let y = b.first in omega arith;
       calls = calls;
-      holding = subst (λ (x : View Entry (Opened D A C)). IsHolding x.holding) (sym is) (holding_of p.me.0.holdings p.me.0.number own b.first b.inside (holdings store (entries_of p.me.0.seen ++ option_list e) (with_own p.me.0.holdings p.me.0.number own) s));
+      holding = subst (λ (x : View Entry (Opened D A C)). IsHolding x.holding) (sym is) (holding_of p.me.0.holdings p.me.0.number own b.first b.inside (holdings store (entries_of p.me.0.seen ++ option_list e) (with_held_by p.me.0.holdings p.me.0.number own) s));
     }
 
     -- and the history that it has then seen
     pub legal_after : (q : Seat (Option V) (View Entry (Opened D A C))) (e : Option Entry) (own : Pairs) (store : Store D A C) → q.me ≡ (after_turn p.me.0 e own, []) → store.opened ≡ opened →
-        Here store (entries_of p.me.0.seen ++ option_list e) (with_own p.me.0.holdings p.me.0.number own) → IsLegal w (entries_of q.me.0.seen)
+        Here store (entries_of p.me.0.seen ++ option_list e) (with_held_by p.me.0.holdings p.me.0.number own) → IsLegal w (entries_of q.me.0.seen)
     legal_after q e own store me same s = subst (IsLegal w) (sym (with_entry p.me.0 q.me.0 e own (ap (λ m. m.0) me)))
-        (subst (λ o. IsLegal (At o) (entries_of p.me.0.seen ++ option_list e)) same (legal store (entries_of p.me.0.seen ++ option_list e) (with_own p.me.0.holdings p.me.0.number own) s))
+        (subst (λ o. IsLegal (At o) (entries_of p.me.0.seen ++ option_list e)) same (legal store (entries_of p.me.0.seen ++ option_list e) (with_held_by p.me.0.holdings p.me.0.number own) s))
 
     -- what the turn added, without an entry and with one
     pub later_after_turn : (q : Seat (Option V) (View Entry (Opened D A C))) (change : Change) → q.me ≡ (after_turn p.me.0 None (after_change change p.me.0.holding), []) → IsLater v q.me.0 (after_change change v.holding)

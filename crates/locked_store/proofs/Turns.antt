@@ -1,7 +1,7 @@
 -- A turn of the store, between a pass's beginning of its turn and the end.
 use Rattle.std.specs.Prelude.{IfErr, IfOk}
 use Rattle.std.proofs.Common.{Err, List, None, Ok, Option, Result, Some, [], ap, arith, false, get_or, inl, inr, is_some, length, refl, subst, suc, sym, true, zero, ℕ, ⊎_elim, ◌++◌, ◌+◌, ◌-◌, ◌<◌, ◌^◌, ◌∙◌, ◌∷◌, ◌≡◌, ◌≤◌}
-use Rattle.locked_store.proofs.Common.{Adds, AddsAs, AllByRecursion, AreHoldings, AreRising, Call, Copies, Copy, Creates, CreatesKey, DecidesAfter, DecidesBefore, Destroy, Destroys, Entry, FaultCounts, FaultMark, Gains, Gives, HasOut, HasOutBeside, HoldsOf, IsAmong, IsBegun, IsCaller, IsClear, IsEntered, IsEnteredAfter, IsEntry, IsHolding, IsOwn, IsRanked, IsStartOf, IsTold, LeavesAllKeys, LeavesKeys, Makes, NoFewerFaults, OnStore, Opened, Opening, Pairs, Plain, Reads, ReadsAndGives, ReadsKey, Request, Seat, Service, Stands, StandsFor, Steps, Store, Takes, ToldBy, View, World, created_unless, entries_of, may_change_keys, named, names, opening_of, plain_step, quiet_leaves, refused_leaves, replay, result_mark, told_before, turn_entry, with_own, without_pair}
+use Rattle.locked_store.proofs.Common.{Adds, AddsAs, AllByRecursion, AreHoldings, AreRising, Call, Copies, Copy, Creates, CreatesKey, DecidesAfter, DecidesBefore, Destroy, Destroys, Entry, FaultCounts, FaultMark, Gains, Gives, HasOut, HasOutBeside, HoldsOf, IsAmong, IsBegun, IsCaller, IsClear, IsEntered, IsEnteredAfter, IsEntry, IsHolding, IsOwn, IsRanked, IsStartOf, IsTold, LeavesAllKeys, LeavesKeys, Makes, NoFewerFaults, OnStore, Opened, Opening, Pairs, Plain, Reads, ReadsAndGives, ReadsKey, Request, Seat, Service, Stands, StandsFor, Steps, Store, Takes, ToldBy, View, World, created_unless, entries_of, may_change_keys, named, names, opening_of, plain_step, quiet_leaves, refused_leaves, replay, result_mark, told_before, turn_entry, with_held_by, without_pair}
 use Rattle.turn_history.proofs.Lists.{entries_fewer}
 use Rattle.turn_history.proofs.Using.{keeps_own}
 use Rattle.key_attributes.specs.declared.Attributes.{Attributes}
@@ -44,7 +44,7 @@ module _ {D A C : Type 0} (w : World D A C) where
 
       -- the store stands for the history with that entry, at which this was decided, and the caller has these pairs out
       pub record IsTurned (mark : FaultMark) (own : Pairs) (Decided : List Entry → Entry → Type 0) : Type 0 where
-        pub stands : Here w new (entries_of p.me.0.seen ++ entry_of mark ∷ []) (with_own p.me.0.holdings p.me.0.number own)
+        pub stands : Here w new (entries_of p.me.0.seen ++ entry_of mark ∷ []) (with_held_by p.me.0.holdings p.me.0.number own)
         pub decided : Decided (entries_of p.me.0.seen) (entry_of mark)
 
       -- so it is of a turn that may fail
@@ -70,7 +70,7 @@ pub ranked : {B : Type 0} {v w : View Entry B} {call : Request} {mark : FaultMar
 ranked {before = before} entered decided = record { before = before; after = entered_after entered decided }
 
 module _ {V D A C T E : Type 0} {w : World D A C} {p : Seat (Option V) (View Entry (Opened D A C))} {new : Store D A C} {call : Request} {mark : E → FaultMark} {own : Pairs} {P : T → List Entry → Entry → Type 0} {Q : E → List Entry → Entry → Type 0} where
-  pub turned_stands : (result : Result T E) → AreTurned w p new call mark own result P Q → Here w new (entries_of p.me.0.seen ++ entry_of w p new call (result_mark mark result) ∷ []) (with_own p.me.0.holdings p.me.0.number own)
+  pub turned_stands : (result : Result T E) → AreTurned w p new call mark own result P Q → Here w new (entries_of p.me.0.seen ++ entry_of w p new call (result_mark mark result) ∷ []) (with_held_by p.me.0.holdings p.me.0.number own)
   turned_stands (Ok x) turned = turned.ok.stands
   turned_stands (Err why) turned = turned.err.stands
 
@@ -96,7 +96,7 @@ module _ {V D A C : Type 0} {w : World D A C} {v : View Entry (Opened D A C)} {p
   own = p.me.0.holding
 
   abbrev with : Pairs → List Pairs
-  with pairs = with_own p.me.0.holdings p.me.0.number pairs
+  with pairs = with_held_by p.me.0.holdings p.me.0.number pairs
 
   -- a turn that calls no device
   pub steady : (new : Store D A C) → new.opened ≡ old.opened → new.file ≡ old.file → new.devices ≡ old.devices → new.buffer ≡ old.buffer → IsSteady w old new

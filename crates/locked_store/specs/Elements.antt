@@ -9,7 +9,7 @@ use Rattle.key_policy.specs.declared.key_use.KeyUse.{KeyUse}
 use Rattle.key_policy.specs.Uses.{FitsUse, use_refusal}
 use Rattle.store_model.specs.Prelude.{Plain, Store, is_opaque_key, Request, Entry}
 use Rattle.store_core.specs.declared.store.Opened.{Opened}
-use Rattle.store_core.specs.Prelude.{IsAnswered, IsLent, IsRefused, mark_of}
+use Rattle.store_core.specs.Prelude.{IsElementAnswered, IsLent, IsRefused, mark_of}
 use Rattle.locked_store.specs.declared.elements.Looked.{Looked}
 use Rattle.locked_store.specs.declared.elements.Looked.TheVariants.{Computed, Lent, Refused}
 use Rattle.locked_store.specs.Turning.{DecidesAfter, DecidesBefore, IsRanked, lease_pair}
@@ -24,6 +24,6 @@ module _ {D A C : Type 0} (store : World D A C)
   -- where the element has the key, it has computed, or refused to; else the key is lent, or the look refused, and the output
   -- buffer is as it was
   abbrev pub IsLooked : Looked → Type 0
-  IsLooked (Computed result spare) = IsClear spare × IsRanked v w call (mark_computed result) r v.holding (DecidesHere true (IsAnswered (store.devices.keys store.opened.devices.value) id element old new result))
+  IsLooked (Computed result spare) = IsClear spare × IsRanked v w call (mark_computed result) r v.holding (DecidesHere true (IsElementAnswered (store.devices.keys store.opened.devices.value) id element old new result))
   IsLooked (Lent lease) = (new ≡ old) × FitsUse wanted (bytes_of lease.buffer) × IsRanked v w call Plain r (lease_pair lease ∷ v.holding) (DecidesHere false (IsLent (use_refusal wanted) id lease))
   IsLooked (Refused status spare) = (new ≡ old) × IsClear spare × IsRanked v w call (mark_of status) r v.holding (DecidesHere false (IsRefused (use_refusal wanted) id status))

@@ -2,7 +2,7 @@
 use Rattle.std.specs.Prelude.{[], ◌∷◌, ◌++◌, Option}
 use Rattle.atomic_table.specs.declared.shared.Seat.{Seat}
 use Rattle.turn_history.specs.declared.pass.View.{View}
-use Rattle.turn_history.specs.Prelude.{entries_of, with_own}
+use Rattle.turn_history.specs.Prelude.{entries_of, with_held_by}
 use Rattle.disk_face.specs.declared.Disk as disk
 use Rattle.driver_dispatch.specs.declared.devices.Devices as devices
 use Rattle.admission.specs.declared.rules.Admission as admission
@@ -22,7 +22,7 @@ module _ {V D A C : Type 0} (d : disk.Ghosts D) (a : devices.Ghosts A) (c : admi
   -- The store stands for what the pass has seen with that entry, or without one, and for what the callers then have out.
   abbrev pub StandsRanked : Request → Met → Change → Type 0
   StandsRanked call met change = HoldsHistory d a c store (entries_of pass.me.0.seen ++ entry_left d a store pass call met ∷ [])
-      (with_own pass.me.0.holdings pass.me.0.number (after_change change pass.me.0.holding))
+      (with_held_by pass.me.0.holdings pass.me.0.number (after_change change pass.me.0.holding))
 
   abbrev pub StandsUnranked : Change → Type 0
-  StandsUnranked change = HoldsHistory d a c store (entries_of pass.me.0.seen) (with_own pass.me.0.holdings pass.me.0.number (after_change change pass.me.0.holding))
+  StandsUnranked change = HoldsHistory d a c store (entries_of pass.me.0.seen) (with_held_by pass.me.0.holdings pass.me.0.number (after_change change pass.me.0.holding))

@@ -1,10 +1,10 @@
 -- What an opening of a shared store found, or why there was none.
 use Rattle.std.specs.Prelude.{◌≡◌, ◌≤◌, ◌⊎◌, ℕ, List}
 use Rattle.disk_face.specs.declared.Disk as disk
-use Rattle.key_cells.specs.declared.slot.Slot as cell
+use Rattle.key_cells.specs.declared.state.CellState as cell
 use Rattle.key_cells.specs.declared.reading.OpenFault.{OpenFault}
 use Rattle.key_cells.specs.declared.reading.OpenFault.TheVariants.{Memory}
-use Rattle.key_cells.specs.Prelude.{IsOpened, IsRefused}
+use Rattle.key_cells.specs.Prelude.{IsOpened, IsOpeningRefused}
 use Rattle.store_core.specs.Prelude.{FindsKeysOf}
 use Rattle.locked_store.specs.Worlds.{World}
 
@@ -15,9 +15,9 @@ module _ {D A C : Type 0} (w : World D A C) where
 
   -- the store was opened on this disk
   abbrev pub IsOpenedOn : D → Type 0
-  IsOpenedOn disk = IsOpened w.disk disk w.opened.file.value.cells.disk w.opened.file.value.cells.slots.items
+  IsOpenedOn disk = IsOpened w.disk disk w.opened.file.value.cells.disk w.opened.file.value.cells.states.items
 
 -- the opening was refused; or it was done, and there was no memory for the lock
 abbrev pub IsNotOpened : {D : Type 0} → disk.Ghosts D → (old new : D) → OpenFault → Type 0
-IsNotOpened disks old new fault = IsRefused disks old new fault
-    ⊎ ((fault ≡ Memory) × ((slots : List cell.Slot) × IsOpened disks old new slots) × (disks.faults old ≤ disks.faults new))
+IsNotOpened disks old new fault = IsOpeningRefused disks old new fault
+    ⊎ ((fault ≡ Memory) × ((slots : List cell.CellState) × IsOpened disks old new slots) × (disks.faults old ≤ disks.faults new))

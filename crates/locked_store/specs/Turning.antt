@@ -3,7 +3,7 @@ use Rattle.std.specs.List.{AllByRecursion}
 use Rattle.std.specs.Prelude.{◌≡◌, ◌⊎◌, ◌<◌, ◌≤◌, ◌^◌, ℕ, ◌+◌, ◌==◌, ◌&&◌, false, cond, Result, nat_lt, count_by, List, [], ◌∷◌, ◌++◌, length, Option, Some, None, is_some, Ok, Err}
 use Rattle.atomic_table.specs.declared.shared.Seat.{Seat}
 use Rattle.turn_history.specs.declared.pass.View.{View}
-use Rattle.turn_history.specs.Prelude.{entries_of, calls_by, StartsWith, own_of, IsInTurn, IsOutside, OwnCalls}
+use Rattle.turn_history.specs.Prelude.{entries_of, calls_by, StartsWith, held_by, IsInTurn, IsOutside, OwnCalls}
 use Rattle.disk_face.specs.declared.Disk as disk
 use Rattle.driver_dispatch.specs.declared.devices.Devices as devices
 use Rattle.slot_table.specs.Lent as lent
@@ -133,7 +133,7 @@ module _ {V D A C : Type 0} (w : World D A C) where
     pub same_calls : p.me.0.calls ≡ v.calls
     pub same_holding : p.me.0.holding ≡ v.holding
     pub calls : OwnCalls caller_of p.me.0
-    pub own : own_of p.me.0.holdings p.me.0.number ≡ p.me.0.holding
+    pub own : held_by p.me.0.holdings p.me.0.number ≡ p.me.0.holding
     pub inside : p.me.0.number ≤ length p.me.0.holdings
     pub few : length p.me.0.seen < 2 ^ 62
     pub entries_are : entries ≡ length (entries_of p.me.0.seen)

@@ -7,7 +7,7 @@ ghost use Rattle.secure_element_calls.specs.Answers.{mark_computed};
 ghost use Rattle.secure_element_calls.specs.Calls.{model_call};
 ghost use Rattle.service_calls.specs.Meanings.{model_request};
 ghost use Rattle.store_model.specs.Prelude.{OnStore, is_opaque_key};
-ghost use Rattle.store_core.specs.Prelude.{IsAnswered, HoldsOf};
+ghost use Rattle.store_core.specs.Prelude.{IsElementAnswered, HoldsOf};
 ghost use Rattle.locked_store.specs.Elements.{IsLooked};
 ghost use Rattle.locked_store.specs.Standing.{HoldsHistory};
 ghost use Rattle.locked_store.specs.Turning.{HasRoomForLease, IsAt, IsLegal, IsBegun};
@@ -93,7 +93,7 @@ impl<D: Disk, A: Devices, C: Admission> SharedStore<D, A, C> {
         ensures at { IsAt (world self.now) pass.new }
         ensures legal { IsLegal (world self.now) (entries_of pass.new.me.0.seen) }
         ensures computed { EndsAfter self.now before.value pass.old pass.new call.now (length out.old) (mark_computed result.1) result.0
-            (IsAnswered (A.keys (world self.now).opened.devices.value) id.0 element.now out.old out.new result.1) }
+            (IsElementAnswered (A.keys (world self.now).opened.devices.value) id.0 element.now out.old out.new result.1) }
     {
         let room = out.len();
         let computed = turn.value().store.opaque_call(id, element, out);

@@ -2,9 +2,9 @@
 use Rattle.std.specs.Prelude.{◌≡◌, length}
 use Rattle.hash_ops.specs.declared.Hash.{Hash}
 use Rattle.hash_ops.specs.Hashes as hashes
-use Rattle.hash_ops.specs.States.{Holds, IsEmpty}
+use Rattle.hash_ops.specs.States.{HashHolds, IsEmpty}
 use Rattle.store_model.specs.Prelude.{digest, hash_length_of, low_byte, Operation, HashWork}
-use Rattle.multipart.specs.States.{IsOperation}
+use Rattle.multipart.specs.States.{StandsForOperation}
 use Rattle.mac_states.specs.declared.running_hash.RunningHash.{RunningHash}
 use Rattle.mac_states.specs.declared.hash_state.HashOpState.{HashOpState}
 
@@ -14,7 +14,7 @@ pub record HoldsHash (s : RunningHash) (work : HashWork) : Type 0 where
   pub which : Hash
   pub digest : hashes.hash_of which ≡ digest (low_byte work.alg)
   pub length : hashes.digest_length which ≡ hash_length_of work.alg
-  pub message : Holds s.hasher which work.message
+  pub message : HashHolds s.hasher which work.message
 
 -- nothing of a message is left: the hasher is that of the empty one
 pub record IsClearRunningHash (s : RunningHash) : Type 0 where
@@ -26,4 +26,4 @@ IsClearHash s = IsClearRunningHash s.state.work
 
 -- the state stands for this operation
 abbrev pub IsHashOperation : HashOpState → Operation HashWork → Type 0
-IsHashOperation s op = IsOperation IsClearRunningHash HoldsHash s.state op
+IsHashOperation s op = StandsForOperation IsClearRunningHash HoldsHash s.state op

@@ -6,7 +6,7 @@ use Rattle.cmac_ops.specs.States.{HoldsCmac, IsWipedCmac}
 use Rattle.store_model.specs.Prelude.{tag_bytes, whole_mac, Operation, MacWork}
 use Rattle.key_policy.specs.declared.algorithms.MacKind.TheVariants.{Hmac, Cmac}
 use Rattle.key_policy.specs.Names.{whole_mac_by}
-use Rattle.multipart.specs.States.{IsOperation}
+use Rattle.multipart.specs.States.{StandsForOperation}
 use Rattle.mac_states.specs.declared.cmac_part.CmacPart.{CmacPart}
 use Rattle.mac_states.specs.declared.running_mac.RunningMac.{RunningMac}
 use Rattle.mac_states.specs.declared.mac_state.MacState.{MacState}
@@ -50,4 +50,4 @@ IsClearMac s = IsClearRunningMac s.state.work
 
 -- the state stands for this operation
 abbrev pub IsMacOperation : MacState → Operation MacWork → Type 0
-IsMacOperation s op = IsOperation IsClearRunningMac HoldsMac s.state op
+IsMacOperation s op = StandsForOperation IsClearRunningMac HoldsMac s.state op

@@ -73,13 +73,13 @@ pub struct OperationState<W> {
 }
 
 impl<W: Work> OperationState<W> {
-    ghost use Rattle.multipart.specs.States.{IsOperation};
+    ghost use Rattle.multipart.specs.States.{StandsForOperation};
     ghost use Rattle.multipart.specs.Turns.{is_active, loses_key, on_active};
 
     /// An inactive operation.
     pub fn new(work: W) -> OperationState<W>
         requires { W.is_clear work }
-        ensures { IsOperation W.is_clear W.holds result Inactive }
+        ensures { StandsForOperation W.is_clear W.holds result Inactive }
     {
         OperationState {
             phase: Phase::Inactive,
@@ -89,7 +89,7 @@ impl<W: Work> OperationState<W> {
 
     /// Whether it is inactive.
     pub fn is_inactive(&self) -> bool
-        ensures { (op : Operation W.Said) → IsOperation W.is_clear W.holds self.now op →
+        ensures { (op : Operation W.Said) → StandsForOperation W.is_clear W.holds self.now op →
             result ≡ is_inactive op }
     {
         self.phase == Phase::Inactive
@@ -97,7 +97,7 @@ impl<W: Work> OperationState<W> {
 
     /// Whether it is active.
     pub fn is_active(&self) -> bool
-        ensures { (op : Operation W.Said) → IsOperation W.is_clear W.holds self.now op →
+        ensures { (op : Operation W.Said) → StandsForOperation W.is_clear W.holds self.now op →
             result ≡ is_active op }
     {
         self.phase == Phase::Active
@@ -118,7 +118,7 @@ impl<W: Work> OperationState<W> {
     /// Forgets everything: it is inactive.
     pub fn wipe(&mut self)
         ensures clear { W.is_clear self.new.work }
-        ensures inactive { IsOperation W.is_clear W.holds self.new Inactive }
+        ensures inactive { StandsForOperation W.is_clear W.holds self.new Inactive }
     {
         self.settle(Phase::Inactive);
     }
@@ -126,9 +126,9 @@ impl<W: Work> OperationState<W> {
     /// Its key is gone, and an active operation fails: it is in error, and this is `InvalidHandle`. `BadState` where it
     /// isn't active.
     pub fn lose_key(&mut self) -> Status
-        ensures state { (op : Operation W.Said) → IsOperation W.is_clear W.holds self.old op →
-            IsOperation W.is_clear W.holds self.new (loses_key op).operation }
-        ensures reply { (op : Operation W.Said) → IsOperation W.is_clear W.holds self.old op →
+        ensures state { (op : Operation W.Said) → StandsForOperation W.is_clear W.holds self.old op →
+            StandsForOperation W.is_clear W.holds self.new (loses_key op).operation }
+        ensures reply { (op : Operation W.Said) → StandsForOperation W.is_clear W.holds self.old op →
             refusal result ≡ (loses_key op).reply }
         ensures ended { self.new.phase ≡ phases.Active → ⊥ }
     {
@@ -147,7 +147,7 @@ impl<W: Work> OperationState<W> {
         W: Steps<S>,
         requires { self.now.phase ≡ phases.Active → W.runs self.now.work }
         ensures bound { result ≤ 16 }
-        ensures drawn { (r : List ℕ) (op : Operation W.Given) → IsOperation W.is_clear W.has self.now op →
+        ensures drawn { (r : List ℕ) (op : Operation W.Given) → StandsForOperation W.is_clear W.has self.now op →
             result ≡ (on_active op (λ w. W.meaning r w step.now room)).drawn }
     {
         match self.phase {
@@ -168,11 +168,11 @@ impl<W: Work> OperationState<W> {
         W: Steps<S>,
         requires { self.old.phase ≡ phases.Active → W.runs self.old.work }
         ensures runs { self.new.phase ≡ phases.Active → W.runs self.new.work }
-        ensures state { (r : List ℕ) (op : Operation W.Given) → (W.takes step ≡ true → r ≡ random.now) → IsOperation W.is_clear W.has self.old op →
-            IsOperation W.is_clear W.has self.new (on_active op (λ w. W.meaning r w step (length out.old))).operation }
-        ensures reply { (r : List ℕ) (op : Operation W.Given) → (W.takes step ≡ true → r ≡ random.now) → IsOperation W.is_clear W.has self.old op →
+        ensures state { (r : List ℕ) (op : Operation W.Given) → (W.takes step ≡ true → r ≡ random.now) → StandsForOperation W.is_clear W.has self.old op →
+            StandsForOperation W.is_clear W.has self.new (on_active op (λ w. W.meaning r w step (length out.old))).operation }
+        ensures reply { (r : List ℕ) (op : Operation W.Given) → (W.takes step ≡ true → r ≡ random.now) → StandsForOperation W.is_clear W.has self.old op →
             AnswersReply result (on_active op (λ w. W.meaning r w step (length out.old))).reply }
-        ensures buffer { (r : List ℕ) (op : Operation W.Given) → (W.takes step ≡ true → r ≡ random.now) → IsOperation W.is_clear W.has self.old op →
+        ensures buffer { (r : List ℕ) (op : Operation W.Given) → (W.takes step ≡ true → r ≡ random.now) → StandsForOperation W.is_clear W.has self.old op →
             out.new ≡ buffer_after out.old (on_active op (λ w. W.meaning r w step (length out.old))).reply }
     {
         self.phase.check_active()?;

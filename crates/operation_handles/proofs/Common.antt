@@ -2,14 +2,14 @@
 pub use Rattle.alg_encoding.specs.Encoding.{IsConcrete}
 unfoldable pub use Rattle.alg_encoding.specs.Encoding.{class_of, is_concrete}
 pub use Rattle.alg_encoding.specs.declared.algorithm.Alg.{Alg}
-pub use Rattle.derivation_states.specs.KeySteps.{derived_key, key_given, key_step_refusal, output_key_refusal}
+pub use Rattle.derivation_states.specs.KeySteps.{derived_key_bytes, key_given, key_step_refusal, output_key_refusal}
 pub use Rattle.derivation_states.specs.States.{IsDerivationOperation}
 pub use Rattle.derivation_states.specs.declared.DerivationState.{DerivationState}
 pub use Rattle.key_attributes.specs.Checks.{location}
 pub use Rattle.key_attributes.specs.declared.Attributes.{Attributes}
 pub use Rattle.key_policy.specs.Uses.{FitsUse, use_refusal, used_for}
 pub use Rattle.multipart.specs.Turns.{by_key, is_active, on_active}
-pub use Rattle.operation_handles.specs.Cells.{IsOperation}
+pub use Rattle.operation_handles.specs.Handles.{IsOperation}
 pub use Rattle.operation_handles.specs.Families.{Aeads, Ciphers, Derivations, Family, Hashes, Macs, WorkOf, embed_of, part_for}
 pub use Rattle.operation_handles.specs.KeyInputs.{RefusesKeyAt, TakesKeyAt, key_refused}
 pub use Rattle.operation_handles.specs.KeyOutputs.{IsDerivedKey, derived_key_refused}
@@ -17,7 +17,7 @@ pub use Rattle.operation_handles.specs.Laws.{EndedOperationsAreClear, KeyInputsA
 pub use Rattle.operation_handles.specs.Setups.{begun_with, set_up_with_key, set_up_without_key}
 pub use Rattle.operation_handles.specs.States.{AreInactive, AreStates, IsOperationOf, MayHave, StandsIn}
 pub use Rattle.operation_handles.specs.Steps.{on_part, stepped_by}
-pub use Rattle.operation_handles.specs.declared.cell.Cell.{Cell}
+pub use Rattle.operation_handles.specs.declared.handle.OperationHandle.{OperationHandle}
 pub use Rattle.operation_handles.specs.declared.states.FamilyStates.{FamilyStates}
 pub use Rattle.psa_status.proofs.Rows.{first_row-back, first_row-front}
 pub use Rattle.psa_status.specs.Rows.{Rows, first_row, unless}

@@ -33,7 +33,7 @@ other_part _ _ w n = refl
 -- ONE FAMILY'S STATE IS ANOTHER
 
 -- what the states of all other families stand for stays
-pub record Keeps (f : Family) (s t : FamilyStates) : Type 0 where
+pub record KeepsOtherFamilies (f : Family) (s t : FamilyStates) : Type 0 where
   pub others : (g : Family) (own : Operation (WorkOf g)) → (g ≡ f → ⊥) → StandsIn g s own → StandsIn g t own
 
 -- a family's state; a derivation's beside its algorithm
@@ -51,7 +51,7 @@ put Ciphers s state = record s { cipher = state }
 put Aeads s state = record s { aead = state }
 put Derivations s state = record s { derivation = state.0; alg = state.1 }
 
-pub keeps_put : (f : Family) (s : FamilyStates) (state : StateOf f) → Keeps f s (put f s state)
+pub keeps_put : (f : Family) (s : FamilyStates) (state : StateOf f) → KeepsOtherFamilies f s (put f s state)
 keeps_put f s state = record { others = λ g own n h. still f g state own n h }
   where
     still : (f g : Family) (state : StateOf f) (own : Operation (WorkOf g)) → (g ≡ f → ⊥) → StandsIn g s own → StandsIn g (put f s state) own
@@ -74,10 +74,10 @@ pub data View (f : Family) (s t : FamilyStates) (key : Option KeyCreation) (oper
 
 -- the handle is this family's
 
-still_inactive : (f : Family) (s t : FamilyStates) → Keeps f s t → ((g : Family) → (g ≡ f → ⊥) → StandsIn g s Inactive) → (g : Family) → (g ≡ f → ⊥) → StandsIn g t Inactive
+still_inactive : (f : Family) (s t : FamilyStates) → KeepsOtherFamilies f s t → ((g : Family) → (g ≡ f → ⊥) → StandsIn g s Inactive) → (g : Family) → (g ≡ f → ⊥) → StandsIn g t Inactive
 still_inactive f s t keeps others g n = keeps.others g Inactive n (others g n)
 
-own_view : (f : Family) (s t : FamilyStates) (key : Option KeyCreation) (operation : HandleOperation) → Keeps f s t → IsOperationOf f s key operation → View f s t key operation
+own_view : (f : Family) (s t : FamilyStates) (key : Option KeyCreation) (operation : HandleOperation) → KeepsOtherFamilies f s t → IsOperationOf f s key operation → View f s t key operation
 own_view f s t key operation keeps h = seen h.own h.is h.has h.whole
   where
     seen : (own : Operation (WorkOf f)) → StandsIn f s own → MayHave f key own → operation ≡ held_with key (embed_of f) own → View f s t key operation
@@ -95,7 +95,7 @@ no_part f g key (Active w) n = ap is_active (other_part f g w n)
 no_part f g key Inactive n = refl
 no_part f g key InError n = refl
 
-other_view : (f g : Family) (s t : FamilyStates) (key : Option KeyCreation) (operation : HandleOperation) → (f ≡ g → ⊥) → Keeps f s t → IsOperationOf g s key operation → View f s t key operation
+other_view : (f g : Family) (s t : FamilyStates) (key : Option KeyCreation) (operation : HandleOperation) → (f ≡ g → ⊥) → KeepsOtherFamilies f s t → IsOperationOf g s key operation → View f s t key operation
 other_view f g s t key operation n keeps h =
     Idle Inactive (h.others f n) refl (ap (λ o. is_active (part_of (part_for f) o)) h.whole ∙ no_part f g key h.own n)
     (λ i. record { family = g; stands = record { own = h.own; is = keeps.others g h.own (λ e. n (sym e)) h.is; has = h.has; whole = h.whole; others = rest i } })
@@ -106,12 +106,12 @@ other_view f g s t key operation n keeps h =
       | inr d ↦ keeps.others o Inactive d (h.others o m)
     ]
 
-pub view : (f : Family) (s t : FamilyStates) (key : Option KeyCreation) (operation : HandleOperation) → Keeps f s t → AreStates s key operation → View f s t key operation
+pub view : (f : Family) (s t : FamilyStates) (key : Option KeyCreation) (operation : HandleOperation) → KeepsOtherFamilies f s t → AreStates s key operation → View f s t key operation
 view f s t key operation keeps are = elim (which f are.family) [
   | inl e ↦ own_view f s t key operation keeps (subst (λ x. IsOperationOf x s key operation) (sym e) are.stands)
   | inr n ↦ other_view f are.family s t key operation n keeps are.stands
 ]
 
 -- nothing changes
-pub keeps_all : (f : Family) (s : FamilyStates) → Keeps f s s
+pub keeps_all : (f : Family) (s : FamilyStates) → KeepsOtherFamilies f s s
 keeps_all f s = record { others = λ g own n h. h }

@@ -5,7 +5,7 @@ use Rattle.mac_states.specs.HashStates.{IsHashOperation}
 use Rattle.mac_states.specs.MacStates.{IsMacOperation}
 use Rattle.cipher_states.specs.States.{IsCipherOperation}
 use Rattle.aead_states.specs.Holding.{IsAeadOperation}
-use Rattle.operation_handles.proofs.Families.{Keeps, which}
+use Rattle.operation_handles.proofs.Families.{KeepsOtherFamilies, which}
 
 -- ALL INACTIVE
 
@@ -38,7 +38,7 @@ all_inactive s key operation h e f = elim (which f h.family) [
 -- SET UP
 
 -- one family's state is another, and all others are inactive
-pub set_up_of : (f : Family) (s t : FamilyStates) (key : Option KeyCreation) (own : Operation (WorkOf f)) → Keeps f s t → AreInactive s → StandsIn f t own → MayHave f key own → AreStates t key (held_with key (embed_of f) own)
+pub set_up_of : (f : Family) (s t : FamilyStates) (key : Option KeyCreation) (own : Operation (WorkOf f)) → KeepsOtherFamilies f s t → AreInactive s → StandsIn f t own → MayHave f key own → AreStates t key (held_with key (embed_of f) own)
 set_up_of f s t key own keeps all is has = record { family = f; stands = record { own = own; is = is; has = has; whole = refl; others = λ g n. keeps.others g Inactive n (all g) } }
 
 held_set_up : {W : Type 0} (key : Option KeyCreation) (embed : W → Work) (refused : Option Status) (work : W) →
@@ -47,7 +47,7 @@ held_set_up key embed None work = refl
 held_set_up key embed (Some status) work = refl
 
 -- a setup that may be refused
-pub set_up_are : (f : Family) (s t : FamilyStates) (refused : Option Status) (work : WorkOf f) → Keeps f s t → AreInactive s → StandsIn f t (set_up Inactive refused work).operation →
+pub set_up_are : (f : Family) (s t : FamilyStates) (refused : Option Status) (work : WorkOf f) → KeepsOtherFamilies f s t → AreInactive s → StandsIn f t (set_up Inactive refused work).operation →
     MayHave f None (set_up Inactive refused work).operation → AreStates t None (set_up Inactive refused (record { key = None; work = embed_of f work })).operation
 set_up_are f s t refused work keeps all is has =
     subst (λ (a : After Held). AreStates t None a.operation) (sym (held_set_up None (embed_of f) refused work)) (set_up_of f s t None (set_up Inactive refused work).operation keeps all is has)

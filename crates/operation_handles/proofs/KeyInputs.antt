@@ -1,6 +1,6 @@
--- A key as the secret of a cell's derivation.
+-- A key as the secret of a handle's derivation.
 use Rattle.std.proofs.Common.{Bool, None, Option, Some, [], ap, false, is_some, not, refl, subst, sym, true, ℕ, ◌&&◌, ◌==◌, ◌∙◌, ◌∷◌, ◌≡◌}
-use Rattle.operation_handles.proofs.Common.{Active, After, AreStates, BadState, Cell, DerivationState, DerivationWork, Derivations, Deriving, FamilyStates, HandleOperation, InError, Inactive, InvalidArgument, IsConcrete, IsDerivationOperation, IsOperation, KeyCreation, MayHave, Operation, Reading, RefusesKeyAt, Status, TakesKeyAt, by_key, bytes_of, derivation_part, done, first_row, goes_on, key_given, key_step, key_step_refusal, key_step_rows, on_active, part_of, unless_failed, with_key}
+use Rattle.operation_handles.proofs.Common.{Active, After, AreStates, BadState, OperationHandle, DerivationState, DerivationWork, Derivations, Deriving, FamilyStates, HandleOperation, InError, Inactive, InvalidArgument, IsConcrete, IsDerivationOperation, IsOperation, KeyCreation, MayHave, Operation, Reading, RefusesKeyAt, Status, TakesKeyAt, by_key, bytes_of, derivation_part, done, first_row, goes_on, key_given, key_step, key_step_refusal, key_step_rows, on_active, part_of, unless_failed, with_key}
 use Rattle.std.specs.Option.{option_map}
 use Rattle.key_policy.specs.declared.key_use.KeyUse.TheVariants.{Derivation}
 use Rattle.operation_handles.proofs.Deriving.{goes_with, key_stays, unless_goes}
@@ -9,7 +9,7 @@ use Rattle.operation_handles.proofs.Leases.{leased_as}
 use Rattle.operation_handles.proofs.Steps.{Took, answers, same_work, seen}
 
 -- what the derivations' state says of a step, before a key is looked at, and what the handle does
-abbrev pub Tells : Cell → (step : ℕ) → Option Status → Type 0
+abbrev pub Tells : OperationHandle → (step : ℕ) → Option Status → Type 0
 Tells c step refusal = (own : Operation DerivationWork) → IsDerivationOperation c.states.derivation own → refusal ≡ key_step_refusal own step
 
 -- a step that takes a key
@@ -33,7 +33,7 @@ takes_none (Active w) step e = (w, refl, e)
 takes_none Inactive step e = cc
 takes_none InError step e = cc
 
-pub takes : (c : Cell) (step : ℕ) (refusal : Option Status) (operation : HandleOperation) → Tells c step refusal → refusal ≡ None → IsOperation c operation →
+pub takes : (c : OperationHandle) (step : ℕ) (refusal : Option Status) (operation : HandleOperation) → Tells c step refusal → refusal ≡ None → IsOperation c operation →
     TakesKeyAt operation step (Derivation step c.states.alg) × (c.lease ≡ None)
 takes c step refusal operation tells none h =
     let a = answers Derivations c operation true (λ w. goes_on w done) h in
@@ -54,7 +54,7 @@ takes c step refusal operation tells none h =
 
 -- a step that takes none
 
-pub refuses : (c : Cell) (step : ℕ) (refusal : Option Status) (status : Status) (operation : HandleOperation) → Tells c step refusal → refusal ≡ Some status → IsOperation c operation → RefusesKeyAt operation step
+pub refuses : (c : OperationHandle) (step : ℕ) (refusal : Option Status) (status : Status) (operation : HandleOperation) → Tells c step refusal → refusal ≡ Some status → IsOperation c operation → RefusesKeyAt operation step
 refuses c step refusal status operation tells some h = λ w derives due.
     let found = seen Derivations c.states c.states h.key operation (keeps_all Derivations c.states) h.are w derives in
     some_none status (sym some ∙ tells (Active w) found.is.state ∙ due)
@@ -92,7 +92,7 @@ refusing_with step s state alive operation code = record {
 
 -- A KEY THAT IS TAKEN
 
-pub taken : (c d : Cell) (state : DerivationState) (operation : HandleOperation) (w : DerivationWork) (key : KeyCreation) (step : ℕ) (reading : Reading) →
+pub taken : (c d : OperationHandle) (state : DerivationState) (operation : HandleOperation) (w : DerivationWork) (key : KeyCreation) (step : ℕ) (reading : Reading) →
     d.states ≡ record c.states { derivation = state } → d.lease ≡ Some reading → key.number ≡ reading.creation → part_of derivation_part operation ≡ Active w →
     (v : DerivationWork) × (part_of derivation_part operation ≡ Active v) × (first_row (key_step_rows v step) ≡ None) →
     ((own : Operation DerivationWork) → IsDerivationOperation c.states.derivation own → IsDerivationOperation state (on_active own (λ v. key_given v step (bytes_of reading.buffer))).operation) →
@@ -107,7 +107,7 @@ taken c d state operation w key step reading same kept number derives takes code
     (found.put (Some key) (Active next) (record { state = has; algorithm = found.is.algorithm }) (λ e. refl)))
 
 -- the derivation fails
-pub failed : (c : Cell) (state : DerivationState) (operation : HandleOperation) (w : DerivationWork) → part_of derivation_part operation ≡ Active w → IsDerivationOperation state InError → IsOperation c operation →
+pub failed : (c : OperationHandle) (state : DerivationState) (operation : HandleOperation) (w : DerivationWork) → part_of derivation_part operation ≡ Active w → IsDerivationOperation state InError → IsOperation c operation →
     IsOperation (record c { states = record c.states { derivation = state } }) InError
 failed c state operation w derives is h =
     let found = seen Derivations c.states (record c.states { derivation = state }) h.key operation (keeps_put Derivations c.states (state, c.states.alg)) h.are w derives in

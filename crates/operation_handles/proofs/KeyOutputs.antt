@@ -1,6 +1,6 @@
--- A key of a cell's derived bytes.
+-- A key of a handle's derived bytes.
 use Rattle.std.proofs.Common.{Bool, Err, List, None, Ok, Option, Some, [], ap, cond, false, is_some, nat_lt, not, refl, subst, sym, true, ℕ, ◌%◌, ◌++◌, ◌==◌, ◌||◌, ◌∙◌, ◌∷◌, ◌≡◌}
-use Rattle.operation_handles.proofs.Common.{Active, After, AreStates, Attributes, BadState, Bytes, Cell, DerivationState, DerivationWork, Derivations, Deriving, FamilyStates, HandleOperation, InError, Inactive, InsufficientData, InvalidArgument, IsDerivationOperation, IsDerivedKey, IsOperation, KeyCreation, MayHave, NotPermitted, NotSupported, Nothing, Operation, Reply, Status, Success, by_key, derivation_part, derived_key, exhausted, first_row, first_row-back, first_row-front, given, goes_on, is_active, key_of_operation, location, next_derived, on_active, output_key_refusal, output_key_rows, part_of, refusal, stated_bytes, taken_from, unless_failed, without}
+use Rattle.operation_handles.proofs.Common.{Active, After, AreStates, Attributes, BadState, Bytes, OperationHandle, DerivationState, DerivationWork, Derivations, Deriving, FamilyStates, HandleOperation, InError, Inactive, InsufficientData, InvalidArgument, IsDerivationOperation, IsDerivedKey, IsOperation, KeyCreation, MayHave, NotPermitted, NotSupported, Nothing, Operation, Reply, Status, Success, by_key, derivation_part, derived_key_bytes, exhausted, first_row, first_row-back, first_row-front, given, goes_on, is_active, key_of_operation, location, next_derived, on_active, output_key_refusal, output_key_rows, part_of, refusal, stated_bytes, taken_from, unless_failed, without}
 use Rattle.derivation_states.specs.Replies.{AnswersFront}
 use Rattle.operation_handles.proofs.Deriving.{derived_goes, goes_with, key_stays}
 use Rattle.operation_handles.proofs.Families.{View, Busy, Idle, keeps_all, keeps_put, view}
@@ -31,13 +31,13 @@ due_of w a e =
     record { rows = both.0; enough = enough_of (nat_lt w.capacity (stated_bytes a)) both.1 }
 
 -- then it gives them
-pub derived_is : (w : DerivationWork) (a : Attributes) → IsDue w a → derived_key w a ≡ goes_on (without w (stated_bytes a)) (given (next_derived w (stated_bytes a)))
+pub derived_is : (w : DerivationWork) (a : Attributes) → IsDue w a → derived_key_bytes w a ≡ goes_on (without w (stated_bytes a)) (given (next_derived w (stated_bytes a)))
 derived_is w a due =
     let n : ℕ = stated_bytes a in
     ap (λ o. unless_failed o (taken_from w n (given (next_derived w n)))) due.rows
     ∙ ap (λ b. cond b (exhausted w) (goes_on (without w n) (given (next_derived w n)))) due.enough
 
-pub key_of : (w : DerivationWork) (a : Attributes) (count : ℕ) (old out : List ℕ) → IsDue w a → AnswersFront 1025 (Ok count) old out (derived_key w a).reply → IsDerivedKey w a count out
+pub key_of : (w : DerivationWork) (a : Attributes) (count : ℕ) (old out : List ℕ) → IsDue w a → AnswersFront 1025 (Ok count) old out (derived_key_bytes w a).reply → IsDerivedKey w a count out
 key_of w a count old out due h =
     let given_front = subst (λ (x : After DerivationWork). AnswersFront 1025 (Ok count) old out x.reply) (derived_is w a due) h in
     record { rows = due.rows; enough = due.enough; size = given_front.1; bytes = given_front.2 }
@@ -73,7 +73,7 @@ unless_success w a None count old out e refused h =
     (λ none. refused (first_row-back (output_key_rows w a) ((nat_lt w.capacity (stated_bytes a), InsufficientData) ∷ []) e ∙ none)) h
 
 pub refused_unanswered : (own : Operation DerivationWork) (a : Attributes) (count : ℕ) (old out : List ℕ) → ((w : DerivationWork) → own ≡ Active w → output_key_refusal (Active w) a ≡ None → ⊥) →
-    AnswersFront 1025 (Ok count) old out (on_active own (λ w. derived_key w a)).reply → ⊥
+    AnswersFront 1025 (Ok count) old out (on_active own (λ w. derived_key_bytes w a)).reply → ⊥
 refused_unanswered (Active w) a count old out refused h = unless_success w a (first_row (output_key_rows w a)) count old out refl (refused w refl) h
 refused_unanswered Inactive a count old out refused h = bad_state h.0
 refused_unanswered InError a count old out refused h = bad_state h.0
@@ -86,7 +86,7 @@ not_given bytes status e = other bytes (ap (λ (r : Reply). r.output) e)
     other : (bytes : List ℕ) → Bytes bytes ≡ Nothing → ⊥
     other bytes e = cc
 
-pub due_answered : (w : DerivationWork) (a : Attributes) (status : Status) (old out : List ℕ) → IsDue w a → AnswersFront 1025 (Err status) old out (derived_key w a).reply → ⊥
+pub due_answered : (w : DerivationWork) (a : Attributes) (status : Status) (old out : List ℕ) → IsDue w a → AnswersFront 1025 (Err status) old out (derived_key_bytes w a).reply → ⊥
 due_answered w a status old out due h = not_given (next_derived w (stated_bytes a)) status (sym (ap (λ (x : After DerivationWork). x.reply) (derived_is w a due)) ∙ h.0)
 
 -- WHAT THE HANDLE HAS
@@ -108,47 +108,47 @@ refusal_by s key operation a refused (Idle own is idle other put) code =
     code own is.state ∙ not_active own a idle ∙ sym (not_active (part_of derivation_part operation) a other)
 
 -- what the derivations' state refuses is what the handle's derivation does
-pub refusal_is : (c : Cell) (operation : HandleOperation) (a : Attributes) (refused : Option Status) → IsOperation c operation →
+pub refusal_is : (c : OperationHandle) (operation : HandleOperation) (a : Attributes) (refused : Option Status) → IsOperation c operation →
     ((own : Operation DerivationWork) → IsDerivationOperation c.states.derivation own → refused ≡ output_key_refusal own a) → refused ≡ output_key_refusal (part_of derivation_part operation) a
 refusal_is c operation a refused h code =
     refusal_by c.states h.key operation a refused (view Derivations c.states c.states h.key operation (keeps_all Derivations c.states) h.are) code
 
 -- THE STEP
 
-pub deriving_key : (a : Attributes) (key : Option KeyCreation) (w : DerivationWork) → MayHave Derivations key (Active w) → MayHave Derivations key (derived_key w a).operation
-deriving_key a key w has = key_stays (λ v. derived_key v a) (λ v. derived_goes v a) key w has
+pub deriving_key : (a : Attributes) (key : Option KeyCreation) (w : DerivationWork) → MayHave Derivations key (Active w) → MayHave Derivations key (derived_key_bytes w a).operation
+deriving_key a key w has = key_stays (λ v. derived_key_bytes v a) (λ v. derived_goes v a) key w has
 
 pub deriving_with : (a : Attributes) (s : FamilyStates) (state : DerivationState) (alive : Bool) (operation : HandleOperation) →
-    ((own : Operation DerivationWork) → IsDerivationOperation s.derivation own → IsDerivationOperation state (by_key alive own (λ w. derived_key w a)).operation) →
-    Took Derivations s (record s { derivation = state }) operation alive (λ w. derived_key w a)
+    ((own : Operation DerivationWork) → IsDerivationOperation s.derivation own → IsDerivationOperation state (by_key alive own (λ w. derived_key_bytes w a)).operation) →
+    Took Derivations s (record s { derivation = state }) operation alive (λ w. derived_key_bytes w a)
 deriving_with a s state alive operation code = record {
-  state = λ own seen is. goes_with s.alg.0 alive state own (λ w. derived_key w a) (λ v. derived_goes v a) is.algorithm (code own is.state);
+  state = λ own seen is. goes_with s.alg.0 alive state own (λ w. derived_key_bytes w a) (λ v. derived_goes v a) is.algorithm (code own is.state);
   key = deriving_key a;
 }
 
 -- bytes for a refused key
-pub refused_not_given : (c : Cell) (a : Attributes) (count : ℕ) (old out : List ℕ) → (operation : HandleOperation) × IsOperation c operation →
+pub refused_not_given : (c : OperationHandle) (a : Attributes) (count : ℕ) (old out : List ℕ) → (operation : HandleOperation) × IsOperation c operation →
     ((operation : HandleOperation) → IsOperation c operation → output_key_refusal (part_of derivation_part operation) a ≡ None → ⊥) →
-    ((own : Operation DerivationWork) → IsDerivationOperation c.states.derivation own → AnswersFront 1025 (Ok count) old out (on_active own (λ w. derived_key w a)).reply) → ⊥
+    ((own : Operation DerivationWork) → IsDerivationOperation c.states.derivation own → AnswersFront 1025 (Ok count) old out (on_active own (λ w. derived_key_bytes w a)).reply) → ⊥
 refused_not_given c a count old out some refused code =
-    let stands = answers Derivations c some.0 true (λ w. derived_key w a) some.1 in
+    let stands = answers Derivations c some.0 true (λ w. derived_key_bytes w a) some.1 in
     refused_unanswered stands.own a count old out
     (λ w e none. refused some.0 some.1 (ap (λ o. output_key_refusal o a) (stands.seen w e) ∙ none)) (code stands.own stands.is.state)
 
 -- a refusal of a key that isn't refused
-pub due_not_refused : (c : Cell) (a : Attributes) (status : Status) (old out : List ℕ) → (operation : HandleOperation) × IsOperation c operation →
+pub due_not_refused : (c : OperationHandle) (a : Attributes) (status : Status) (old out : List ℕ) → (operation : HandleOperation) × IsOperation c operation →
     ((operation : HandleOperation) → IsOperation c operation → output_key_refusal (part_of derivation_part operation) a ≡ None) →
-    ((own : Operation DerivationWork) → IsDerivationOperation c.states.derivation own → AnswersFront 1025 (Err status) old out (on_active own (λ w. derived_key w a)).reply) → ⊥
+    ((own : Operation DerivationWork) → IsDerivationOperation c.states.derivation own → AnswersFront 1025 (Err status) old out (on_active own (λ w. derived_key_bytes w a)).reply) → ⊥
 due_not_refused c a status old out some due code =
     let work = due_work (part_of derivation_part some.0) a (due some.0 some.1) in
     let found = seen Derivations c.states c.states some.1.key some.0 (keeps_all Derivations c.states) some.1.are work.0 work.1 in
     due_answered work.0 a status old out work.2 (code (Active work.0) found.is.state)
 
 -- the bytes of a key that isn't refused
-pub derived : (c : Cell) (state : DerivationState) (a : Attributes) (count : ℕ) (old out : List ℕ) (operation : HandleOperation) (w : DerivationWork) → IsOperation c operation → part_of derivation_part operation ≡ Active w →
+pub derived : (c : OperationHandle) (state : DerivationState) (a : Attributes) (count : ℕ) (old out : List ℕ) (operation : HandleOperation) (w : DerivationWork) → IsOperation c operation → part_of derivation_part operation ≡ Active w →
     output_key_refusal (part_of derivation_part operation) a ≡ None →
-    ((own : Operation DerivationWork) → IsDerivationOperation c.states.derivation own → IsDerivationOperation state (on_active own (λ v. derived_key v a)).operation) →
-    ((own : Operation DerivationWork) → IsDerivationOperation c.states.derivation own → AnswersFront 1025 (Ok count) old out (on_active own (λ v. derived_key v a)).reply) →
+    ((own : Operation DerivationWork) → IsDerivationOperation c.states.derivation own → IsDerivationOperation state (on_active own (λ v. derived_key_bytes v a)).operation) →
+    ((own : Operation DerivationWork) → IsDerivationOperation c.states.derivation own → AnswersFront 1025 (Ok count) old out (on_active own (λ v. derived_key_bytes v a)).reply) →
     IsOperation (record c { states = record c.states { derivation = state } }) (Active (record { key = key_of_operation operation; work = Deriving (without w (stated_bytes a)) }))
     × IsDerivedKey w a count out
 derived c state a count old out operation w h derives none code given =

@@ -4,14 +4,14 @@ use Rattle.operation_handles.proofs.Common.{Active, BadState, DerivationWork, De
 use Rattle.std.specs.FinMap as map
 use Rattle.key_policy.specs.declared.key_use.KeyUse.{KeyUse}
 use Rattle.key_policy.specs.Permissions.{pattern_refusal}
-use Rattle.store_model.specs.Prelude.{bytes_of}
+use Rattle.store_model.specs.Prelude.{bytes_of_key}
 use Rattle.operation_handles.proofs.Served.{untouched_is}
 use Rattle.operation_handles.proofs.Steps.{same_work}
 
 -- what comes of a key, by whether the one before is alive and by the first row
 abbrev input_by : Service → (caller handle : ℕ) → DerivationWork → Option Key → (id : ℕ) → Bool → Option Status → Served
 input_by service caller handle w found id alive refused =
-    applied service caller handle (held_after (creation_of id found) Deriving (with_live_key alive (unless_failed refused (goes_on (with_key w (bytes_of found)) done))))
+    applied service caller handle (held_after (creation_of id found) Deriving (with_live_key alive (unless_failed refused (goes_on (with_key w (bytes_of_key found)) done))))
 
 -- A KEY THAT ISN'T LOOKED AT
 

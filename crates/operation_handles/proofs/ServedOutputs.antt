@@ -1,6 +1,6 @@
 -- A key of a handle's derived bytes, as the service serves it.
 use Rattle.std.proofs.Common.{Bool, None, Option, Some, [], ap, cond, false, is_some, nat_lt, not, refl, subst, sym, true, ℕ, ◌%◌, ◌++◌, ◌==◌, ◌||◌, ◌∙◌, ◌∷◌, ◌≡◌}
-use Rattle.operation_handles.proofs.Common.{Active, After, Attributes, BadState, DerivationWork, Deriving, InError, Inactive, InsufficientData, InvalidArgument, InvalidHandle, KeyOutputsAreTheModels, NotPermitted, NotSupported, Operation, Rows, Served, Service, Status, applied, derivation_part, derived_key, exhausted, fails, first_row, first_row-back, first_row-front, given, goes_on, has_live_key, held_after, key_of_operation, location, next_derived, on_part, operation_of, output_key, output_key_refusal, output_key_rows, part_of, recorded_of, stated_bytes, taken_from, underived, unless, unless_failed, with_live_key, without}
+use Rattle.operation_handles.proofs.Common.{Active, After, Attributes, BadState, DerivationWork, Deriving, InError, Inactive, InsufficientData, InvalidArgument, InvalidHandle, KeyOutputsAreTheModels, NotPermitted, NotSupported, Operation, Rows, Served, Service, Status, applied, derivation_part, derived_key_bytes, exhausted, fails, first_row, first_row-back, first_row-front, given, goes_on, has_live_key, held_after, key_of_operation, location, next_derived, on_part, operation_of, output_key, output_key_refusal, output_key_rows, part_of, recorded_of, stated_bytes, taken_from, underived, unless, unless_failed, with_live_key, without}
 use Rattle.psa_status.specs.Rows.{◌>>=◌}
 use Rattle.store_model.specs.HandleCalls as calls
 use Rattle.operation_handles.proofs.Served.{untouched_is}
@@ -49,13 +49,13 @@ refused_by service caller handle w a None e refuses =
     ∙ short_by service caller handle w a (nat_lt w.capacity (stated_bytes a)) (λ none. refuses (last ∙ none))
 
 alive_or_not : (service : Service) (caller handle : ℕ) (w : DerivationWork) (a : Attributes) (alive : Bool) → (first_row (due_rows w a) ≡ None → ⊥) →
-    output_of service caller handle w a alive ≡ derived_by service caller handle (with_live_key alive (derived_key w a))
+    output_of service caller handle w a alive ≡ derived_by service caller handle (with_live_key alive (derived_key_bytes w a))
 alive_or_not service caller handle w a true refuses = refused_by service caller handle w a (first_row (output_key_rows w a)) refl refuses
 alive_or_not service caller handle w a false refuses = refl
 
 refused_of : (service : Service) (caller handle : ℕ) (own : Operation DerivationWork) (a : Attributes) → (output_key_refusal own a ≡ None → ⊥) →
     output_key service caller handle own a
-    ≡ applied service caller handle (on_part (operation_of service caller handle) Deriving own (has_live_key service caller handle) (λ w. derived_key w a))
+    ≡ applied service caller handle (on_part (operation_of service caller handle) Deriving own (has_live_key service caller handle) (λ w. derived_key_bytes w a))
 refused_of service caller handle (Active w) a refuses = alive_or_not service caller handle w a (has_live_key service caller handle) refuses
 refused_of service caller handle Inactive a refuses = untouched_is service caller handle BadState
 refused_of service caller handle InError a refuses = untouched_is service caller handle BadState

@@ -1,8 +1,8 @@
 -- A step of one family's state is a step of the handle's operation.
 use Rattle.std.proofs.Common.{Bool, Option, ap, false, refl, subst, sym, true, ℕ, ◌∙◌, ◌≡◌}
-use Rattle.operation_handles.proofs.Common.{Active, Aeads, After, AreStates, BadState, Cell, Ciphers, Derivations, Family, FamilyStates, HandleOperation, Hashes, Held, InError, Inactive, IsOperation, KeyCreation, Macs, MayHave, Operation, Reply, StandsIn, Work, WorkOf, by_key, embed_of, held_after, held_with, is_active, key_of_operation, on_part, part_for, part_of, stays, with_live_key}
+use Rattle.operation_handles.proofs.Common.{Active, Aeads, After, AreStates, BadState, OperationHandle, Ciphers, Derivations, Family, FamilyStates, HandleOperation, Hashes, Held, InError, Inactive, IsOperation, KeyCreation, Macs, MayHave, Operation, Reply, StandsIn, Work, WorkOf, by_key, embed_of, held_after, held_with, is_active, key_of_operation, on_part, part_for, part_of, stays, with_live_key}
 use Rattle.std.specs.Option.{option_map}
-use Rattle.operation_handles.proofs.Families.{Keeps, View, Busy, Idle, keeps_all, view, own_part}
+use Rattle.operation_handles.proofs.Families.{KeepsOtherFamilies, View, Busy, Idle, keeps_all, view, own_part}
 
 -- what the code did: this family's state took the step, where it is the handle's whichever it stands for, and the key may stay
 pub record Took (f : Family) (s t : FamilyStates) (operation : HandleOperation) (alive : Bool) (step : WorkOf f → After (WorkOf f)) : Type 0 where
@@ -71,12 +71,12 @@ step_by f s t key operation alive step took (Idle own is idle other put) =
     subst (λ (a : After Held). AreStates t key a.operation) (sym (not_part operation (embed_of f) (part_of (part_for f) operation) alive step other))
     (put (subst (λ (a : After (WorkOf f)). StandsIn f t a.operation) (not_active own step alive idle) (took.state own (λ w e. absurd (no_work own w idle e)) is)))
 
-pub step_are : (f : Family) (s t : FamilyStates) (key : Option KeyCreation) (operation : HandleOperation) (alive : Bool) (step : WorkOf f → After (WorkOf f)) → Keeps f s t → Took f s t operation alive step →
+pub step_are : (f : Family) (s t : FamilyStates) (key : Option KeyCreation) (operation : HandleOperation) (alive : Bool) (step : WorkOf f → After (WorkOf f)) → KeepsOtherFamilies f s t → Took f s t operation alive step →
     AreStates s key operation → AreStates t key (makes f operation alive step).operation
 step_are f s t key operation alive step keeps took are = step_by f s t key operation alive step took (view f s t key operation keeps are)
 
--- the same of a cell, whose lease stays
-pub step_is : (f : Family) (c d : Cell) (operation : HandleOperation) (alive : Bool) (step : WorkOf f → After (WorkOf f)) → d.lease ≡ c.lease → Keeps f c.states d.states →
+-- the same of a handle, whose lease stays
+pub step_is : (f : Family) (c d : OperationHandle) (operation : HandleOperation) (alive : Bool) (step : WorkOf f → After (WorkOf f)) → d.lease ≡ c.lease → KeepsOtherFamilies f c.states d.states →
     Took f c.states d.states operation alive step → IsOperation c operation → IsOperation d (makes f operation alive step).operation
 step_is f c d operation alive step same keeps took h = record {
   key = h.key;
@@ -108,23 +108,23 @@ answers_by f s key operation alive step (Idle own is idle other put) =
       drawn = ap (λ (a : After Held). a.drawn) same ∙ ap (λ (a : After (WorkOf f)). a.drawn) own_same;
     }
 
-pub answers : (f : Family) (c : Cell) (operation : HandleOperation) (alive : Bool) (step : WorkOf f → After (WorkOf f)) → IsOperation c operation → Answers f c.states operation alive step
+pub answers : (f : Family) (c : OperationHandle) (operation : HandleOperation) (alive : Bool) (step : WorkOf f → After (WorkOf f)) → IsOperation c operation → Answers f c.states operation alive step
 answers f c operation alive step h = answers_by f c.states h.key operation alive step (view f c.states c.states h.key operation (keeps_all f c.states) h.are)
 
-pub step_reply : (f : Family) (c : Cell) (operation : HandleOperation) (alive : Bool) (step : WorkOf f → After (WorkOf f)) (P : Reply → Type 0) →
+pub step_reply : (f : Family) (c : OperationHandle) (operation : HandleOperation) (alive : Bool) (step : WorkOf f → After (WorkOf f)) (P : Reply → Type 0) →
     ((own : Operation (WorkOf f)) → ((w : WorkOf f) → own ≡ Active w → part_of (part_for f) operation ≡ Active w) → StandsIn f c.states own → P (by_key alive own step).reply) →
     IsOperation c operation → P (makes f operation alive step).reply
 step_reply f c operation alive step P code h =
     let a = answers f c operation alive step h in
     subst P (sym a.reply) (code a.own a.seen a.is)
 
-pub step_drawn : (f : Family) (c : Cell) (operation : HandleOperation) (alive : Bool) (step : WorkOf f → After (WorkOf f)) (P : ℕ → Type 0) →
+pub step_drawn : (f : Family) (c : OperationHandle) (operation : HandleOperation) (alive : Bool) (step : WorkOf f → After (WorkOf f)) (P : ℕ → Type 0) →
     ((own : Operation (WorkOf f)) → StandsIn f c.states own → P (by_key alive own step).drawn) → IsOperation c operation → P (makes f operation alive step).drawn
 step_drawn f c operation alive step P code h =
     let a = answers f c operation alive step h in
     subst P (sym a.drawn) (code a.own a.is)
 
--- the work that the handle has for a family is that of the state, with the cell's key
+-- the work that the handle has for a family is that of the state, with the handle's key
 pub record IsSeen (f : Family) (s t : FamilyStates) (key : Option KeyCreation) (operation : HandleOperation) (w : WorkOf f) : Type 0 where
   pub is : StandsIn f s (Active w)
   pub has : MayHave f key (Active w)
@@ -137,6 +137,6 @@ seen_by f s t key operation (Busy v is has whole put) w e =
     record { is = subst (λ x. StandsIn f s (Active x)) same is; has = subst (λ x. MayHave f key (Active x)) same has; key_is = ap key_of_operation whole; put = put }
 seen_by f s t key operation (Idle own is idle other put) w e = absurd (no_work (part_of (part_for f) operation) w other e)
 
-pub seen : (f : Family) (s t : FamilyStates) (key : Option KeyCreation) (operation : HandleOperation) → Keeps f s t → AreStates s key operation → (w : WorkOf f) → part_of (part_for f) operation ≡ Active w →
+pub seen : (f : Family) (s t : FamilyStates) (key : Option KeyCreation) (operation : HandleOperation) → KeepsOtherFamilies f s t → AreStates s key operation → (w : WorkOf f) → part_of (part_for f) operation ≡ Active w →
     IsSeen f s t key operation w
 seen f s t key operation keeps are w e = seen_by f s t key operation (view f s t key operation keeps are) w e

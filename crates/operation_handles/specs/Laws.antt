@@ -7,22 +7,22 @@ use Rattle.key_attributes.specs.declared.Attributes.{Attributes}
 use Rattle.key_policy.specs.declared.key_use.KeyUse.{KeyUse}
 use Rattle.key_policy.specs.Uses.{use_refusal}
 use Rattle.derivation_states.specs.KeySteps.{output_key_refusal}
-use Rattle.store_model.specs.Prelude.{done, recorded_of, bytes_of, Active, fails, goes_on, DerivationWork, with_key, HandleOperation, Deriving, Service, applied, derivation_part, is_alive, key_of_operation, operation_of, part_of, InputKey, OutputKey, creation_of, derived_key, handle_step, random_of}
+use Rattle.store_model.specs.Prelude.{done, recorded_of, bytes_of_key, Active, fails, goes_on, DerivationWork, with_key, HandleOperation, Deriving, Service, applied, derivation_part, is_alive, key_of_operation, operation_of, part_of, InputKey, OutputKey, creation_of, derived_key, handle_step, random_of}
 use Rattle.store_model.specs.DerivationOperations.{stated_bytes}
 use Rattle.service_calls.specs.Meanings.{model_setup, model_step}
 use Rattle.service_calls.specs.declared.handle_calls.Setup.{Setup}
 use Rattle.service_calls.specs.declared.steps.Step.{Step}
 use Rattle.multipart.specs.Turns.{is_active}
 use Rattle.operation_handles.specs.States.{AreClear}
-use Rattle.operation_handles.specs.Cells.{IsOperation}
+use Rattle.operation_handles.specs.Handles.{IsOperation}
 use Rattle.operation_handles.specs.Setups.{set_up_by}
 use Rattle.operation_handles.specs.Steps.{stepped_by}
 use Rattle.operation_handles.specs.KeyInputs.{RefusesKeyAt, TakesKeyAt, key_refused}
 use Rattle.operation_handles.specs.KeyOutputs.{derived_key_refused}
-use Rattle.operation_handles.specs.declared.cell.Cell.{Cell}
+use Rattle.operation_handles.specs.declared.handle.OperationHandle.{OperationHandle}
 
 abbrev pub EndedOperationsAreClear : Type 0
-EndedOperationsAreClear = (c : Cell) (operation : HandleOperation) → IsOperation c operation → is_active operation ≡ false → AreClear c.states
+EndedOperationsAreClear = (c : OperationHandle) (operation : HandleOperation) → IsOperation c operation → is_active operation ≡ false → AreClear c.states
 
 -- whether the key of a handle's operation is still there
 abbrev pub has_live_key : Service → (caller handle : ℕ) → Bool
@@ -54,7 +54,7 @@ pub record KeyInputsAreTheModels : Type 0 where
       TakesKeyAt (operation_of service caller handle) step wanted → part_of derivation_part (operation_of service caller handle) ≡ Active w →
       use_refusal wanted (map.get service.store.keys id) ≡ None →
       handle_step service caller handle (InputKey step id)
-      ≡ applied service caller handle (goes_on (record { key = creation_of id (map.get service.store.keys id); work = Deriving (with_key w (bytes_of (map.get service.store.keys id))) }) done)
+      ≡ applied service caller handle (goes_on (record { key = creation_of id (map.get service.store.keys id); work = Deriving (with_key w (bytes_of_key (map.get service.store.keys id))) }) done)
 
 -- A KEY OF DERIVED BYTES
 

@@ -1,7 +1,7 @@
 pub mod Families
 pub mod Derivations
 pub mod States
-pub mod Cells
+pub mod Handles
 pub mod Draws
 pub mod Setups
 pub mod Steps

@@ -6,7 +6,7 @@ use Rattle.psa_status.specs.declared.Status.{Status}
 use Rattle.alg_encoding.specs.declared.algorithm.Alg.{Alg}
 use Rattle.alg_encoding.specs.declared.table.Class.TheVariants as class
 use Rattle.key_policy.specs.Uses.{use_refusal, used_for}
-use Rattle.store_model.specs.Prelude.{Key, Store, bytes_of, class_rows, creation_of, hash_work, mac_work, cipher_work, aead_work, derivation_work, After, Active, set_up, Held, HandleOperation, KeyCreation, Work, Hashing, Authenticating, Ciphering, Sealing, Deriving}
+use Rattle.store_model.specs.Prelude.{Key, Store, bytes_of_key, class_rows, creation_of, hash_work, mac_work, cipher_work, aead_work, derivation_work, After, Active, set_up, Held, HandleOperation, KeyCreation, Work, Hashing, Authenticating, Ciphering, Sealing, Deriving}
 use Rattle.service_calls.specs.declared.handle_calls.KeyedSetup.{KeyedSetup}
 use Rattle.service_calls.specs.declared.handle_calls.KeylessSetup.{KeylessSetup}
 use Rattle.service_calls.specs.declared.handle_calls.KeylessSetup.TheVariants as keyless
@@ -47,7 +47,7 @@ abbrev pub set_up_with_key : Store → HandleOperation → KeyedSetup → After 
 set_up_with_key store operation setup =
     let found : Option Key = map.get store.keys setup.key.0 in
     set_up operation (use_refusal (used_for setup.purpose setup.alg) found)
-    (record { key = creation_of setup.key.0 found; work = work_begun setup.purpose setup.alg.0 (bytes_of found) })
+    (record { key = creation_of setup.key.0 found; work = work_begun setup.purpose setup.alg.0 (bytes_of_key found) })
 
 -- what a setup makes of an operation, by the keys that the store has
 abbrev pub set_up_by : Store → HandleOperation → Setup → After Held

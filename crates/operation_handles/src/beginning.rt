@@ -4,11 +4,11 @@ ghost use Rattle.secret_bytes.specs.Buffer.{bytes_of};
 ghost use Rattle.key_policy.specs.Uses.{FitsUse, used_for};
 ghost use Rattle.service_calls.specs.Answers.{plain_reply};
 ghost use Rattle.store_model.specs.Prelude.{HandleOperation, KeyCreation, Inactive};
-ghost use Rattle.operation_handles.specs.Cells.{IsOperation};
+ghost use Rattle.operation_handles.specs.Handles.{IsOperation};
 ghost use Rattle.operation_handles.specs.Setups.{begun_with, set_up_without_key};
 ghost use Rattle.operation_handles.specs.States.{AreInactive, AreStates};
 
-use crate::cell::Cell;
+use crate::handle::OperationHandle;
 use crate::states::FamilyStates;
 use key_policy::NamedAlgorithm;
 use psa_status::Status;
@@ -52,7 +52,7 @@ impl FamilyStates {
     }
 }
 
-impl Cell {
+impl OperationHandle {
     /// Sets up an inactive operation that has no key: a hash or a derivation. The refusal of a number that names none
     /// leaves it inactive.
     pub fn begin(&mut self, setup: KeylessSetup) -> Result<(), Status>

@@ -4,15 +4,15 @@ ghost use Rattle.psa_status.specs.Rows.{first_row};
 ghost use Rattle.secret_bytes.specs.Buffer.{bytes_of};
 ghost use Rattle.service_calls.specs.Answers.{plain_reply};
 ghost use Rattle.store_model.specs.Prelude.{DerivationWork, key_step_rows, with_key, HandleOperation, KeyCreation, Deriving, derivation_part, part_of, Active, InError};
-ghost use Rattle.operation_handles.specs.Cells.{IsOperation};
+ghost use Rattle.operation_handles.specs.Handles.{IsOperation};
 ghost use Rattle.operation_handles.specs.KeyInputs.{TakesKeyAt, RefusesKeyAt, key_refused};
 
-use crate::cell::Cell;
+use crate::handle::OperationHandle;
 use key_policy::KeyUse;
 use psa_status::Status;
 use slot_table::Lease;
 
-impl Cell {
+impl OperationHandle {
     /// What a key is looked for that is given at this step of a derivation. `None` where the step is refused before its key
     /// is looked at. A derivation that has a key has its secret, so that it takes no other one.
     pub fn wanted_at(&self, step: u16) -> Option<KeyUse>

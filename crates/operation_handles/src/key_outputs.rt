@@ -3,15 +3,15 @@ ghost use Rattle.std.specs.Prelude.{◌≡◌, ◌/◌, min, None};
 ghost use Rattle.derivation_states.specs.KeySteps.{output_key_refusal};
 ghost use Rattle.store_model.specs.DerivationOperations.{stated_bytes};
 ghost use Rattle.store_model.specs.Prelude.{DerivationWork, without, HandleOperation, Deriving, derivation_part, key_of_operation, part_of, Active, refusal};
-ghost use Rattle.operation_handles.specs.Cells.{IsOperation};
+ghost use Rattle.operation_handles.specs.Handles.{IsOperation};
 ghost use Rattle.operation_handles.specs.KeyOutputs.{IsDerivedKey, derived_key_refused};
 
-use crate::cell::Cell;
+use crate::handle::OperationHandle;
 use derivation_states::KEY_ROOM;
 use key_attributes::Attributes;
 use psa_status::Status;
 
-impl Cell {
+impl OperationHandle {
     /// What a key with these attributes is refused, where the derivation's key is still there and before the store looks at
     /// the attributes.
     pub fn output_key_refusal(&self, attributes: &Attributes) -> Option<Status>

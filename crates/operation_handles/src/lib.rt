@@ -3,7 +3,7 @@
 #![tactic(auto)]
 
 mod beginning;
-mod cell;
+mod handle;
 mod key_inputs;
 mod key_outputs;
 mod laws;
@@ -11,7 +11,7 @@ mod states;
 mod stepping;
 mod turns;
 
-pub use cell::Cell;
+pub use handle::OperationHandle;
 pub use laws::{
     an_ended_operation_is_clear, key_inputs_are_the_models, key_outputs_are_the_models,
     setups_are_the_models, steps_are_the_models,

@@ -4,17 +4,17 @@ ghost use Rattle.random_streams.specs.RandomWords.{drawn_from, next_bytes};
 ghost use Rattle.service_calls.specs.Answered.{AnswersReply};
 ghost use Rattle.service_calls.specs.Meanings.{model_step};
 ghost use Rattle.store_model.specs.Prelude.{buffer_after, HandleOperation};
-ghost use Rattle.operation_handles.specs.Cells.{IsOperation};
+ghost use Rattle.operation_handles.specs.Handles.{IsOperation};
 ghost use Rattle.operation_handles.specs.Draws.{DrawsFew};
 ghost use Rattle.operation_handles.specs.Steps.{stepped_by};
 
-use crate::cell::Cell;
+use crate::handle::OperationHandle;
 use crate::turns::turn;
 use psa_status::Status;
 use random_streams::Stream;
 use service_calls::{Output, Step};
 
-impl Cell {
+impl OperationHandle {
     /// Takes one step of the operation, by whether its key, if it was given one, is still there. Bytes that the step gives
     /// are written to the front of the buffer.
     pub fn step(

@@ -2,10 +2,10 @@
 pub use Rattle.key_attributes.specs.declared.Attributes.{Attributes}
 pub use Rattle.key_cells.proofs.Bodies.{of_one_key}
 pub use Rattle.key_cells.proofs.Moves.{doubt_after, moves_after_settled, moves_none, moves_settled, settled_alike, settled_open, some_image}
-pub use Rattle.key_cells.specs.Prelude.{Absent, Content, CreationFailed, Doubtful, Finds, FitsCell, HasKey, HasOneEach, HoldsId, HoldsKey, IsDamaged, IsFirstWithoutKey, IsFoundIn, IsFull, IsOpened, IsSure, Moves, MovesEither, Present, Shows, body, cell_slot, content_at, content_of, creation_of_slot, found_in, gate, has_id, is_open, opened_gate, settled, settled_content, settled_slot, settled_slots}
+pub use Rattle.key_cells.specs.Prelude.{Absent, Content, CreationFailed, Doubtful, Finds, FitsCell, HasKey, HasOneEach, HoldsId, HoldsKey, IsDamaged, IsFirstWithoutKey, IsFoundIn, IsFull, IsOpened, IsSure, Moves, MovesEither, Present, Shows, body, cell_state, content_at, content_of, creation_of_state, found_in, gate, has_id, is_open, opened_gate, settled, settled_content, settled_state, settled_states}
 unfoldable pub use Rattle.key_cells.specs.Prelude.{body_of}
-pub use Rattle.key_cells.specs.declared.slot.Slot.{Slot}
-pub use Rattle.key_cells.specs.declared.slot.Slot.TheVariants.{Free, Open, Shut, Unsure}
+pub use Rattle.key_cells.specs.declared.state.CellState.{CellState}
+pub use Rattle.key_cells.specs.declared.state.CellState.TheVariants.{Free, Open, Shut, Unsure}
 pub use Rattle.persistent_keys.specs.Files.{AreFound, Doubt, FitsKeys, IsDoubted, IsDoubtedIn, IsFiled, IsOf, IsPut, Keys, Leads, StandsForKeys, Stored, TellsCell, stored}
 pub use Rattle.std.proofs.lemmas.Bool.{cases_eq}
 pub use Rattle.std.proofs.Common.{Err, IfSome, List, None, Option, Some, []}

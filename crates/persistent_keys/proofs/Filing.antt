@@ -1,5 +1,5 @@
 -- A filed store after a change of its cells.
-use Rattle.persistent_keys.proofs.Common.{Absent, Attributes, Content, Doubt, Doubtful, Free, HoldsId, HoldsKey, IsDoubted, IsDoubtedIn, IsFiled, IsOf, IsPut, Keys, List, None, Open, Option, Present, Slot, Some, Stored, TellsCell, [], ap, arith, cases_eq, cell_slot, cond, content_at, eq-eqb, false, get_or-map, get_or-set_other, get_or-set_same, has_id, is_open, length, length-set, ne_eqb, of_one_key, refl, set, settled, settled_alike, settled_content, settled_open, settled_slot, settled_slots, stored, subst, sym, true, ℕ, ⊎_elim, ◌<◌, ◌∙◌, ◌∷◌, ◌≡◌, ◌≢◌}
+use Rattle.persistent_keys.proofs.Common.{Absent, Attributes, Content, Doubt, Doubtful, Free, HoldsId, HoldsKey, IsDoubted, IsDoubtedIn, IsFiled, IsOf, IsPut, Keys, List, None, Open, Option, Present, CellState, Some, Stored, TellsCell, [], ap, arith, cases_eq, cell_state, cond, content_at, eq-eqb, false, get_or-map, get_or-set_other, get_or-set_same, has_id, is_open, length, length-set, ne_eqb, of_one_key, refl, set, settled, settled_alike, settled_content, settled_open, settled_state, settled_states, stored, subst, sym, true, ℕ, ⊎_elim, ◌<◌, ◌∙◌, ◌∷◌, ◌≡◌, ◌≢◌}
 use Rattle.key_cells.proofs.Counts.{count_same}
 use Rattle.persistent_keys.proofs.Fitting.{tells_open}
 
@@ -13,65 +13,65 @@ no_doubt doubt a bytes d = absurd d
 pub same_doubt : (doubt : Doubt) → IsWider doubt doubt
 same_doubt doubt a bytes d = d
 
-has_settled : (id : ℕ) (slot : Slot) → has_id id (settled_slot slot) ≡ has_id id slot
-has_settled id slot = settled_alike (has_id id) refl refl slot
+has_settled : (id : ℕ) (state : CellState) → has_id id (settled_state state) ≡ has_id id state
+has_settled id state = settled_alike (has_id id) refl refl state
 
 -- what is in doubt is gone
-tells_sure : (keys : Keys) (doubt doubt' : Doubt) (slot : Slot) (content : Content) → TellsCell keys doubt slot content → TellsCell keys doubt' slot (settled_content content)
+tells_sure : (keys : Keys) (doubt doubt' : Doubt) (state : CellState) (content : Content) → TellsCell keys doubt state content → TellsCell keys doubt' state (settled_content content)
 tells_sure keys doubt doubt' (Open id creation) (Present body) t = t
 tells_sure keys doubt doubt' (Open id creation) content t = absurd t
-tells_sure keys doubt doubt' slot (Present body) t = absurd t
-tells_sure keys doubt doubt' slot content t = tt
+tells_sure keys doubt doubt' state (Present body) t = absurd t
+tells_sure keys doubt doubt' state content t = tt
 
 of_settled : (id : ℕ) (content : Content) → IsOf id (settled_content content) → IsOf id content
 of_settled id (Doubtful body) is = absurd is
 of_settled id content is = is
 
--- another slot that is as good once nothing is in doubt
-closed_alike : (keys : Keys) (doubt : Doubt) (slot slot' : Slot) (content : Content) → is_open slot ≡ false → is_open slot' ≡ false → TellsCell keys doubt slot content → TellsCell keys doubt slot' content
-closed_alike keys doubt slot slot' content shut shut' t = to slot' content shut' (from slot content shut t)
+-- another state that is as good once nothing is in doubt
+closed_alike : (keys : Keys) (doubt : Doubt) (state state' : CellState) (content : Content) → is_open state ≡ false → is_open state' ≡ false → TellsCell keys doubt state content → TellsCell keys doubt state' content
+closed_alike keys doubt state state' content shut shut' t = to state' content shut' (from state content shut t)
   where
-    from : (slot : Slot) (content : Content) → is_open slot ≡ false → TellsCell keys doubt slot content → TellsCell keys doubt Free content
+    from : (state : CellState) (content : Content) → is_open state ≡ false → TellsCell keys doubt state content → TellsCell keys doubt Free content
     from (Open id creation) content shut t = cc
-    from slot Absent shut t = t
-    from slot content shut t = t
+    from state Absent shut t = t
+    from state content shut t = t
 
-    to : (slot : Slot) (content : Content) → is_open slot ≡ false → TellsCell keys doubt Free content → TellsCell keys doubt slot content
+    to : (state : CellState) (content : Content) → is_open state ≡ false → TellsCell keys doubt Free content → TellsCell keys doubt state content
     to (Open id creation) content shut t = cc
-    to slot Absent shut t = t
-    to slot content shut t = t
+    to state Absent shut t = t
+    to state content shut t = t
 
-tells_alike : (keys : Keys) (doubt : Doubt) (slot slot' : Slot) (content : Content) → settled_slot slot' ≡ settled_slot slot → TellsCell keys doubt slot content → TellsCell keys doubt slot' content
-tells_alike keys doubt (Open id creation) (Open id' creation') content same t = subst (λ (s : Slot). TellsCell keys doubt s content) (sym same) t
-tells_alike keys doubt (Open id creation) slot' content same t = cc
-tells_alike keys doubt slot (Open id creation) content same t = cc
-tells_alike keys doubt slot slot' content same t = closed_alike keys doubt slot slot' content refl refl t
+tells_alike : (keys : Keys) (doubt : Doubt) (state state' : CellState) (content : Content) → settled_state state' ≡ settled_state state → TellsCell keys doubt state content → TellsCell keys doubt state' content
+tells_alike keys doubt (Open id creation) (Open id' creation') content same t = subst (λ (s : CellState). TellsCell keys doubt s content) (sym same) t
+tells_alike keys doubt (Open id creation) state' content same t = cc
+tells_alike keys doubt state (Open id creation) content same t = cc
+tells_alike keys doubt state state' content same t = closed_alike keys doubt state state' content refl refl t
 
 -- other keys, where the cell's own is the same
-tells_moved : (keys keys' : Keys) (doubt doubt' : Doubt) (slot : Slot) (content : Content) → ((id : ℕ) → has_id id slot ≡ true → keys' id ≡ keys id) → IsWider doubt doubt' → TellsCell keys doubt slot content → TellsCell keys' doubt' slot content
+tells_moved : (keys keys' : Keys) (doubt doubt' : Doubt) (state : CellState) (content : Content) → ((id : ℕ) → has_id id state ≡ true → keys' id ≡ keys id) → IsWider doubt doubt' → TellsCell keys doubt state content → TellsCell keys' doubt' state content
 tells_moved keys keys' doubt doubt' (Open id creation) (Present body) same wider t = (t.0, t.1, t.2, t.3, same id (eq-eqb id id refl) ∙ t.4)
 tells_moved keys keys' doubt doubt' (Open id creation) content same wider t = absurd t
-tells_moved keys keys' doubt doubt' slot Absent same wider t = tt
-tells_moved keys keys' doubt doubt' slot (Present body) same wider t = absurd t
-tells_moved keys keys' doubt doubt' slot (Doubtful body) same wider t = (t.0, t.1, t.2, wider t.0 t.1 t.3)
+tells_moved keys keys' doubt doubt' state Absent same wider t = tt
+tells_moved keys keys' doubt doubt' state (Present body) same wider t = absurd t
+tells_moved keys keys' doubt doubt' state (Doubtful body) same wider t = (t.0, t.1, t.2, wider t.0 t.1 t.3)
 
-has_no_id : (id : ℕ) (slot : Slot) → is_open slot ≡ false → has_id id slot ≡ false
+has_no_id : (id : ℕ) (state : CellState) → is_open state ≡ false → has_id id state ≡ false
 has_no_id id (Open own creation) shut = cc
-has_no_id id slot shut = refl
+has_no_id id state shut = refl
 
-settled_slot_at : (slots : List Slot) (cell : ℕ) → length slots ≡ 512 → cell < 512 → cell_slot (settled_slots slots) cell ≡ settled_slot (cell_slot slots cell)
-settled_slot_at slots cell sized lt = get_or-map settled_slot slots cell Free Free (omega (arith, sized))
+settled_state_at : (states : List CellState) (cell : ℕ) → length states ≡ 512 → cell < 512 → cell_state (settled_states states) cell ≡ settled_state (cell_state states cell)
+settled_state_at states cell sized lt = get_or-map settled_state states cell Free Free (omega (arith, sized))
 
-pub settled_twice : (slots : List Slot) → settled_slots (settled_slots slots) ≡ settled_slots slots
+pub settled_twice : (states : List CellState) → settled_states (settled_states states) ≡ settled_states states
 settled_twice [] = refl
-settled_twice (Open id creation ∷ slots) = ap (λ (l : List Slot). Open id creation ∷ l) (settled_twice slots)
-settled_twice (slot ∷ slots) = ap (λ (l : List Slot). Free ∷ l) (settled_twice slots)
+settled_twice (Open id creation ∷ states) = ap (λ (l : List CellState). Open id creation ∷ l) (settled_twice states)
+settled_twice (state ∷ states) = ap (λ (l : List CellState). Free ∷ l) (settled_twice states)
 
 -- nothing is in doubt any more
-pub settles : (keys : Keys) (doubt doubt' : Doubt) (slots : List Slot) (contents : List Content) → length contents ≡ 512 → IsFiled keys doubt slots contents → IsFiled keys doubt' slots (settled contents)
-settles keys doubt doubt' slots contents count f = record {
+pub settles : (keys : Keys) (doubt doubt' : Doubt) (states : List CellState) (contents : List Content) → length contents ≡ 512 → IsFiled keys doubt states contents → IsFiled keys doubt' states (settled contents)
+settles keys doubt doubt' states contents count f = record {
   sized = f.sized;
-  each = λ cell lt. rw (get_or-map settled_content contents cell Absent Absent (omega (arith, count))) (tells_sure keys doubt doubt' (cell_slot slots cell) (content_at contents cell) (f.each cell lt));
+  each = λ cell lt. rw (get_or-map settled_content contents cell Absent Absent (omega (arith, count))) (tells_sure keys doubt doubt' (cell_state states cell) (content_at contents cell) (f.each cell lt));
   found = f.found;
   apart = λ id cell other lt lt' is is'. f.apart id cell other lt lt' (was id cell lt is) (was id other lt' is');
 }
@@ -80,52 +80,52 @@ settles keys doubt doubt' slots contents count f = record {
     was id cell lt is = of_settled id (content_at contents cell) (subst (λ (c : Content). IsOf id c) (get_or-map settled_content contents cell Absent Absent (omega (arith, count))) is)
 
 -- a directory that is as good once nothing is in doubt: a cell that has a key has it there
-alike_at : (slots slots' : List Slot) (cell : ℕ) → length slots ≡ 512 → cell < 512 → settled_slots slots' ≡ settled_slots slots → settled_slot (cell_slot slots' cell) ≡ settled_slot (cell_slot slots cell)
-alike_at slots slots' cell sized lt same =
-    sym (settled_slot_at slots' cell (count_same slots slots' 512 same sized) lt) ∙ (ap (λ (l : List Slot). cell_slot l cell) same ∙ settled_slot_at slots cell sized lt)
+alike_at : (states states' : List CellState) (cell : ℕ) → length states ≡ 512 → cell < 512 → settled_states states' ≡ settled_states states → settled_state (cell_state states' cell) ≡ settled_state (cell_state states cell)
+alike_at states states' cell sized lt same =
+    sym (settled_state_at states' cell (count_same states states' 512 same sized) lt) ∙ (ap (λ (l : List CellState). cell_state l cell) same ∙ settled_state_at states cell sized lt)
 
-pub still_has : (slots slots' : List Slot) (id cell : ℕ) → length slots ≡ 512 → cell < 512 → settled_slots slots' ≡ settled_slots slots → has_id id (cell_slot slots cell) ≡ true → has_id id (cell_slot slots' cell) ≡ true
-still_has slots slots' id cell sized lt same has =
-    sym (has_settled id (cell_slot slots' cell)) ∙ (ap (has_id id) (alike_at slots slots' cell sized lt same) ∙ (has_settled id (cell_slot slots cell) ∙ has))
+pub still_has : (states states' : List CellState) (id cell : ℕ) → length states ≡ 512 → cell < 512 → settled_states states' ≡ settled_states states → has_id id (cell_state states cell) ≡ true → has_id id (cell_state states' cell) ≡ true
+still_has states states' id cell sized lt same has =
+    sym (has_settled id (cell_state states' cell)) ∙ (ap (has_id id) (alike_at states states' cell sized lt same) ∙ (has_settled id (cell_state states cell) ∙ has))
 
-pub resettles : (keys : Keys) (doubt : Doubt) (slots slots' : List Slot) (contents : List Content) → settled_slots slots' ≡ settled_slots slots → IsFiled keys doubt slots contents → IsFiled keys doubt slots' contents
-resettles keys doubt slots slots' contents same f = record {
-  sized = count_same slots slots' 512 same f.sized;
-  each = λ cell lt. tells_alike keys doubt (cell_slot slots cell) (cell_slot slots' cell) (content_at contents cell) (alike_at slots slots' cell f.sized lt same) (f.each cell lt);
-  found = λ id key is. let c = f.found id key is in (c.0, c.1, still_has slots slots' id c.0 f.sized c.1 same c.2);
+pub resettles : (keys : Keys) (doubt : Doubt) (states states' : List CellState) (contents : List Content) → settled_states states' ≡ settled_states states → IsFiled keys doubt states contents → IsFiled keys doubt states' contents
+resettles keys doubt states states' contents same f = record {
+  sized = count_same states states' 512 same f.sized;
+  each = λ cell lt. tells_alike keys doubt (cell_state states cell) (cell_state states' cell) (content_at contents cell) (alike_at states states' cell f.sized lt same) (f.each cell lt);
+  found = λ id key is. let c = f.found id key is in (c.0, c.1, still_has states states' id c.0 f.sized c.1 same c.2);
   apart = f.apart;
 }
 
 -- the same keys, and more in doubt
-pub refiled : (keys keys' : Keys) (doubt doubt' : Doubt) (slots : List Slot) (contents : List Content) → ((id : ℕ) → keys' id ≡ keys id) → IsWider doubt doubt' → IsFiled keys doubt slots contents → IsFiled keys' doubt' slots contents
-refiled keys keys' doubt doubt' slots contents same wider f = record {
+pub refiled : (keys keys' : Keys) (doubt doubt' : Doubt) (states : List CellState) (contents : List Content) → ((id : ℕ) → keys' id ≡ keys id) → IsWider doubt doubt' → IsFiled keys doubt states contents → IsFiled keys' doubt' states contents
+refiled keys keys' doubt doubt' states contents same wider f = record {
   sized = f.sized;
-  each = λ cell lt. tells_moved keys keys' doubt doubt' (cell_slot slots cell) (content_at contents cell) (λ id has. same id) wider (f.each cell lt);
+  each = λ cell lt. tells_moved keys keys' doubt doubt' (cell_state states cell) (content_at contents cell) (λ id has. same id) wider (f.each cell lt);
   found = λ id key is. f.found id key (sym (same id) ∙ is);
   apart = f.apart;
 }
 
--- an identifier is that of one slot
-pub one : (keys : Keys) (doubt : Doubt) (slots : List Slot) (contents : List Content) → IsFiled keys doubt slots contents → (id cell other : ℕ) → cell < 512 → other < 512 → has_id id (cell_slot slots cell) ≡ true → has_id id (cell_slot slots other) ≡ true → cell ≡ other
-one keys doubt slots contents f id cell other lt lt' has has' = f.apart id cell other lt lt' (of_open cell lt has) (of_open other lt' has')
+-- an identifier is that of one state
+pub one : (keys : Keys) (doubt : Doubt) (states : List CellState) (contents : List Content) → IsFiled keys doubt states contents → (id cell other : ℕ) → cell < 512 → other < 512 → has_id id (cell_state states cell) ≡ true → has_id id (cell_state states other) ≡ true → cell ≡ other
+one keys doubt states contents f id cell other lt lt' has has' = f.apart id cell other lt lt' (of_open cell lt has) (of_open other lt' has')
   where
-    of_open : (k : ℕ) → k < 512 → has_id id (cell_slot slots k) ≡ true → IsOf id (content_at contents k)
+    of_open : (k : ℕ) → k < 512 → has_id id (cell_state states k) ≡ true → IsOf id (content_at contents k)
     of_open k less h =
-        let o = tells_open keys doubt (cell_slot slots k) (content_at contents k) id h (f.each k less) in
+        let o = tells_open keys doubt (cell_state states k) (content_at contents k) id h (f.each k less) in
         subst (λ (c : Content). IsOf id c) (sym o.5) (o.2, o.3, o.6, o.7)
 
 -- one cell changes
-each_set : (keys : Keys) (doubt : Doubt) (slots : List Slot) (contents : List Content) (cell : ℕ) (slot : Slot) (content : Content) → length slots ≡ 512 → length contents ≡ 512 → cell < 512 → TellsCell keys doubt slot content
-    → ((other : ℕ) → other < 512 → other ≢ cell → TellsCell keys doubt (cell_slot slots other) (content_at contents other))
-    → (other : ℕ) → other < 512 → TellsCell keys doubt (cell_slot (set slots cell slot) other) (content_at (set contents cell content) other)
-each_set keys doubt slots contents cell slot content sized count lt here else other less = ⊎_elim
-    (λ is. rw is (rw (get_or-set_same slots cell slot Free (omega (arith, sized)), get_or-set_same contents cell content Absent (omega (arith, count))) here))
-    (λ differs. rw (get_or-set_other slots cell other slot Free differs, get_or-set_other contents cell other content Absent differs) (else other less differs))
+each_set : (keys : Keys) (doubt : Doubt) (states : List CellState) (contents : List Content) (cell : ℕ) (state : CellState) (content : Content) → length states ≡ 512 → length contents ≡ 512 → cell < 512 → TellsCell keys doubt state content
+    → ((other : ℕ) → other < 512 → other ≢ cell → TellsCell keys doubt (cell_state states other) (content_at contents other))
+    → (other : ℕ) → other < 512 → TellsCell keys doubt (cell_state (set states cell state) other) (content_at (set contents cell content) other)
+each_set keys doubt states contents cell state content sized count lt here else other less = ⊎_elim
+    (λ is. rw is (rw (get_or-set_same states cell state Free (omega (arith, sized)), get_or-set_same contents cell content Absent (omega (arith, count))) here))
+    (λ differs. rw (get_or-set_other states cell other state Free differs, get_or-set_other contents cell other content Absent differs) (else other less differs))
     (cases_eq other cell)
 
-tells_shut : (keys : Keys) (doubt : Doubt) (slot : Slot) (body : List ℕ) → is_open slot ≡ false → IsDoubtedIn doubt body → TellsCell keys doubt slot (Doubtful body)
+tells_shut : (keys : Keys) (doubt : Doubt) (state : CellState) (body : List ℕ) → is_open state ≡ false → IsDoubtedIn doubt body → TellsCell keys doubt state (Doubtful body)
 tells_shut keys doubt (Open id creation) body shut d = cc
-tells_shut keys doubt slot body shut d = d
+tells_shut keys doubt state body shut d = d
 
 -- the content of one cell changes to one of an identifier that no other cell has
 apart_set : (contents : List Content) (cell : ℕ) (content : Content) → length contents ≡ 512 → cell < 512
@@ -153,27 +153,27 @@ abbrev pub HasNone : ℕ → List Content → Type 0
 HasNone id contents = (cell : ℕ) → cell < 512 → IsOf id (content_at contents cell) → ⊥
 
 -- once nothing is in doubt, a key that the file hasn't is in no cell
-pub none_settled : (keys : Keys) (doubt : Doubt) (slots : List Slot) (contents : List Content) (id : ℕ) → length contents ≡ 512 → keys id ≡ None → IsFiled keys doubt slots (settled contents) → HasNone id (settled contents)
-none_settled keys doubt slots contents id count none f cell lt is =
-    by (cell_slot slots cell) (content_at contents cell) (subst (λ (c : Content). TellsCell keys doubt (cell_slot slots cell) c) at (f.each cell lt)) (subst (λ (c : Content). IsOf id c) at is)
+pub none_settled : (keys : Keys) (doubt : Doubt) (states : List CellState) (contents : List Content) (id : ℕ) → length contents ≡ 512 → keys id ≡ None → IsFiled keys doubt states (settled contents) → HasNone id (settled contents)
+none_settled keys doubt states contents id count none f cell lt is =
+    by (cell_state states cell) (content_at contents cell) (subst (λ (c : Content). TellsCell keys doubt (cell_state states cell) c) at (f.each cell lt)) (subst (λ (c : Content). IsOf id c) at is)
   where
     at : content_at (settled contents) cell ≡ settled_content (content_at contents cell)
     at = get_or-map settled_content contents cell Absent Absent (omega (arith, count))
 
-    by : (slot : Slot) (content : Content) → TellsCell keys doubt slot (settled_content content) → IsOf id (settled_content content) → ⊥
+    by : (state : CellState) (content : Content) → TellsCell keys doubt state (settled_content content) → IsOf id (settled_content content) → ⊥
     by (Open own creation) (Present body) t is =
         let same : own ≡ id = one_id own id body (t.0, t.1, t.2, t.3) is in
         let z : None ≡ Some (stored creation t.0 t.1) = sym none ∙ (ap keys (sym same) ∙ t.4) in cc
-    by slot (Present body) t is = t
-    by slot content t is = is
+    by state (Present body) t is = t
+    by state content t is = is
 
 -- a key is in doubt in a cell that has none
-pub doubts : (keys : Keys) (doubt : Doubt) (slots : List Slot) (contents : List Content) (cell id : ℕ) (body : List ℕ) → length contents ≡ 512 → cell < 512 → is_open (cell_slot slots cell) ≡ false → HoldsId id body → IsDoubtedIn doubt body → HasNone id contents
-    → IsFiled keys doubt slots contents → IsFiled keys doubt slots (set contents cell (Doubtful body))
-doubts keys doubt slots contents cell id body count lt shut holds d none f = record {
+pub doubts : (keys : Keys) (doubt : Doubt) (states : List CellState) (contents : List Content) (cell id : ℕ) (body : List ℕ) → length contents ≡ 512 → cell < 512 → is_open (cell_state states cell) ≡ false → HoldsId id body → IsDoubtedIn doubt body → HasNone id contents
+    → IsFiled keys doubt states contents → IsFiled keys doubt states (set contents cell (Doubtful body))
+doubts keys doubt states contents cell id body count lt shut holds d none f = record {
   sized = f.sized;
   each = λ other less. ⊎_elim
-      (λ is. rw is (rw (get_or-set_same contents cell (Doubtful body) Absent (omega (arith, count))) (tells_shut keys doubt (cell_slot slots cell) body shut d)))
+      (λ is. rw is (rw (get_or-set_same contents cell (Doubtful body) Absent (omega (arith, count))) (tells_shut keys doubt (cell_state states cell) body shut d)))
       (λ differs. rw (get_or-set_other contents cell other (Doubtful body) Absent differs) (f.each other less))
       (cases_eq other cell);
   found = f.found;
@@ -181,15 +181,15 @@ doubts keys doubt slots contents cell id body count lt shut holds d none f = rec
 }
 
 -- a key is put into a cell that has none
-pub adds : (keys keys' : Keys) (doubt : Doubt) (slots : List Slot) (contents : List Content) (cell creation : ℕ) (a : Attributes) (bytes body : List ℕ) → length contents ≡ 512 → cell < 512 → is_open (cell_slot slots cell) ≡ false → HoldsKey a bytes body → keys a.id.0 ≡ None → HasNone a.id.0 contents
-    → IsPut keys keys' a.id.0 (Some (stored creation a bytes)) → IsFiled keys doubt slots contents → IsFiled keys' doubt (set slots cell (Open a.id.0 creation)) (set contents cell (Present body))
-adds keys keys' doubt slots contents cell creation a bytes body count lt shut holds none none_there put f = record {
-  sized = length-set slots cell (Open id creation) ∙ f.sized;
-  each = each_set keys' doubt slots contents cell (Open id creation) (Present body) f.sized count lt (a, bytes, holds, refl, hit)
-      (λ other less differs. tells_moved keys keys' doubt doubt (cell_slot slots other) (content_at contents other) (λ q has. miss q (λ e. not_there other less (ap (λ i. has_id i (cell_slot slots other)) (sym e) ∙ has))) (same_doubt doubt) (f.each other less));
+pub adds : (keys keys' : Keys) (doubt : Doubt) (states : List CellState) (contents : List Content) (cell creation : ℕ) (a : Attributes) (bytes body : List ℕ) → length contents ≡ 512 → cell < 512 → is_open (cell_state states cell) ≡ false → HoldsKey a bytes body → keys a.id.0 ≡ None → HasNone a.id.0 contents
+    → IsPut keys keys' a.id.0 (Some (stored creation a bytes)) → IsFiled keys doubt states contents → IsFiled keys' doubt (set states cell (Open a.id.0 creation)) (set contents cell (Present body))
+adds keys keys' doubt states contents cell creation a bytes body count lt shut holds none none_there put f = record {
+  sized = length-set states cell (Open id creation) ∙ f.sized;
+  each = each_set keys' doubt states contents cell (Open id creation) (Present body) f.sized count lt (a, bytes, holds, refl, hit)
+      (λ other less differs. tells_moved keys keys' doubt doubt (cell_state states other) (content_at contents other) (λ q has. miss q (λ e. not_there other less (ap (λ i. has_id i (cell_state states other)) (sym e) ∙ has))) (same_doubt doubt) (f.each other less));
   found = λ q key is. ⊎_elim
       (λ e. (cell, lt, ap (has_id q) at_cell ∙ eq-eqb id q (sym e)))
-      (λ ne. let c = f.found q key (sym (miss q ne) ∙ is) in (c.0, c.1, ap (has_id q) (at_other c.0 (λ e. closed q (ap (λ k. has_id q (cell_slot slots k)) (sym e) ∙ c.2))) ∙ c.2))
+      (λ ne. let c = f.found q key (sym (miss q ne) ∙ is) in (c.0, c.1, ap (has_id q) (at_other c.0 (λ e. closed q (ap (λ k. has_id q (cell_state states k)) (sym e) ∙ c.2))) ∙ c.2))
       (cases_eq q id);
   apart = apart_set contents cell (Present body) count lt f.apart (λ q other less differs is is'. none_there other less (subst (λ (n : ℕ). IsOf n (content_at contents other)) (one_id q id body is (a, bytes, holds, refl)) is'));
 }
@@ -197,11 +197,11 @@ adds keys keys' doubt slots contents cell creation a bytes body count lt shut ho
     id : ℕ
     id = a.id.0
 
-    at_cell : cell_slot (set slots cell (Open id creation)) cell ≡ Open id creation
-    at_cell = get_or-set_same slots cell (Open id creation) Free (omega (arith, f.sized))
+    at_cell : cell_state (set states cell (Open id creation)) cell ≡ Open id creation
+    at_cell = get_or-set_same states cell (Open id creation) Free (omega (arith, f.sized))
 
-    at_other : (other : ℕ) → other ≢ cell → cell_slot (set slots cell (Open id creation)) other ≡ cell_slot slots other
-    at_other other differs = get_or-set_other slots cell other (Open id creation) Free differs
+    at_other : (other : ℕ) → other ≢ cell → cell_state (set states cell (Open id creation)) other ≡ cell_state states other
+    at_other other differs = get_or-set_other states cell other (Open id creation) Free differs
 
     hit : keys' id ≡ Some (stored creation a bytes)
     hit = put id ∙ ap (λ t. cond t (Some (stored creation a bytes)) (keys id)) (eq-eqb id id refl)
@@ -209,21 +209,21 @@ adds keys keys' doubt slots contents cell creation a bytes body count lt shut ho
     miss : (q : ℕ) → q ≢ id → keys' q ≡ keys q
     miss q ne = put q ∙ ap (λ t. cond t (Some (stored creation a bytes)) (keys q)) (ne_eqb q id ne)
 
-    closed : (q : ℕ) → has_id q (cell_slot slots cell) ≡ true → ⊥
-    closed q has = let z : false ≡ true = sym (has_no_id q (cell_slot slots cell) shut) ∙ has in cc
+    closed : (q : ℕ) → has_id q (cell_state states cell) ≡ true → ⊥
+    closed q has = let z : false ≡ true = sym (has_no_id q (cell_state states cell) shut) ∙ has in cc
 
-    not_there : (other : ℕ) → other < 512 → has_id id (cell_slot slots other) ≡ true → ⊥
-    not_there other less has = let o = tells_open keys doubt (cell_slot slots other) (content_at contents other) id has (f.each other less) in let z : None ≡ Some (stored o.0 o.2 o.3) = sym none ∙ o.8 in cc
+    not_there : (other : ℕ) → other < 512 → has_id id (cell_state states other) ≡ true → ⊥
+    not_there other less has = let o = tells_open keys doubt (cell_state states other) (content_at contents other) id has (f.each other less) in let z : None ≡ Some (stored o.0 o.2 o.3) = sym none ∙ o.8 in cc
 
 -- the key of a cell is taken away, or in doubt there
-pub removes : (keys keys' : Keys) (doubt doubt' : Doubt) (slots : List Slot) (contents : List Content) (cell id : ℕ) (slot : Slot) (content : Content) → length contents ≡ 512 → cell < 512 → has_id id (cell_slot slots cell) ≡ true → is_open slot ≡ false
-    → TellsCell keys' doubt' slot content → ((q : ℕ) → IsOf q content → IsOf q (content_at contents cell)) → IsWider doubt doubt' → IsPut keys keys' id None → IsFiled keys doubt slots contents → IsFiled keys' doubt' (set slots cell slot) (set contents cell content)
-removes keys keys' doubt doubt' slots contents cell id slot content count lt has shut here same_of wider put f = record {
-  sized = length-set slots cell slot ∙ f.sized;
-  each = each_set keys' doubt' slots contents cell slot content f.sized count lt here
-      (λ other less differs. tells_moved keys keys' doubt doubt' (cell_slot slots other) (content_at contents other) (λ q is. miss q (λ e. differs (one keys doubt slots contents f id other cell less lt (ap (λ i. has_id i (cell_slot slots other)) (sym e) ∙ is) has))) wider (f.each other less));
+pub removes : (keys keys' : Keys) (doubt doubt' : Doubt) (states : List CellState) (contents : List Content) (cell id : ℕ) (state : CellState) (content : Content) → length contents ≡ 512 → cell < 512 → has_id id (cell_state states cell) ≡ true → is_open state ≡ false
+    → TellsCell keys' doubt' state content → ((q : ℕ) → IsOf q content → IsOf q (content_at contents cell)) → IsWider doubt doubt' → IsPut keys keys' id None → IsFiled keys doubt states contents → IsFiled keys' doubt' (set states cell state) (set contents cell content)
+removes keys keys' doubt doubt' states contents cell id state content count lt has shut here same_of wider put f = record {
+  sized = length-set states cell state ∙ f.sized;
+  each = each_set keys' doubt' states contents cell state content f.sized count lt here
+      (λ other less differs. tells_moved keys keys' doubt doubt' (cell_state states other) (content_at contents other) (λ q is. miss q (λ e. differs (one keys doubt states contents f id other cell less lt (ap (λ i. has_id i (cell_state states other)) (sym e) ∙ is) has))) wider (f.each other less));
   found = λ q key is. let ne = not_id q key is in let c = f.found q key (sym (miss q ne) ∙ is) in
-      (c.0, c.1, ap (has_id q) (at_other c.0 (λ e. ne (same_id q (ap (λ k. has_id q (cell_slot slots k)) (sym e) ∙ c.2)))) ∙ c.2);
+      (c.0, c.1, ap (has_id q) (at_other c.0 (λ e. ne (same_id q (ap (λ k. has_id q (cell_state states k)) (sym e) ∙ c.2)))) ∙ c.2);
   apart = apart_set contents cell content count lt f.apart (λ q other less differs is is'. differs (f.apart q other cell less lt is' (same_of q is)));
 }
   where
@@ -233,20 +233,20 @@ removes keys keys' doubt doubt' slots contents cell id slot content count lt has
     not_id : (q : ℕ) (key : Stored) → keys' q ≡ Some key → q ≢ id
     not_id q key is e = let z : None ≡ Some key = sym (put q ∙ ap (λ t. cond t None (keys q)) (eq-eqb q id e)) ∙ is in cc
 
-    same_id : (q : ℕ) → has_id q (cell_slot slots cell) ≡ true → q ≡ id
-    same_id q is = let a = tells_open keys doubt (cell_slot slots cell) (content_at contents cell) q is (f.each cell lt) in let b = tells_open keys doubt (cell_slot slots cell) (content_at contents cell) id has (f.each cell lt) in
+    same_id : (q : ℕ) → has_id q (cell_state states cell) ≡ true → q ≡ id
+    same_id q is = let a = tells_open keys doubt (cell_state states cell) (content_at contents cell) q is (f.each cell lt) in let b = tells_open keys doubt (cell_state states cell) (content_at contents cell) id has (f.each cell lt) in
         let z : Open q a.0 ≡ Open id b.0 = sym a.4 ∙ b.4 in cc
 
-    at_other : (other : ℕ) → other ≢ cell → cell_slot (set slots cell slot) other ≡ cell_slot slots other
-    at_other other differs = get_or-set_other slots cell other slot Free differs
+    at_other : (other : ℕ) → other ≢ cell → cell_state (set states cell state) other ≡ cell_state states other
+    at_other other differs = get_or-set_other states cell other state Free differs
 
 -- a cell that has no key has none of this identifier, and where each has none, neither has the file
-pub no_key : (keys : Keys) (doubt : Doubt) (slots : List Slot) (contents : List Content) (id : ℕ) → ((cell : ℕ) → cell < length slots → has_id id (cell_slot slots cell) ≡ false) → IsFiled keys doubt slots contents → keys id ≡ None
-no_key keys doubt slots contents id none f = go (keys id) refl
+pub no_key : (keys : Keys) (doubt : Doubt) (states : List CellState) (contents : List Content) (id : ℕ) → ((cell : ℕ) → cell < length states → has_id id (cell_state states cell) ≡ false) → IsFiled keys doubt states contents → keys id ≡ None
+no_key keys doubt states contents id none f = go (keys id) refl
   where
     go : (o : Option Stored) → keys id ≡ o → o ≡ None
     go None e = refl
     go (Some key) e = let c = f.found id key e in let z : false ≡ true = sym (none c.0 (omega (arith, f.sized, c.1))) ∙ c.2 in cc
 
-pub settled_shut : (slots : List Slot) (cell : ℕ) → length slots ≡ 512 → cell < 512 → is_open (cell_slot slots cell) ≡ false → is_open (cell_slot (settled_slots slots) cell) ≡ false
-settled_shut slots cell sized lt shut = ap is_open (settled_slot_at slots cell sized lt) ∙ (settled_open (cell_slot slots cell) ∙ shut)
+pub settled_shut : (states : List CellState) (cell : ℕ) → length states ≡ 512 → cell < 512 → is_open (cell_state states cell) ≡ false → is_open (cell_state (settled_states states) cell) ≡ false
+settled_shut states cell sized lt shut = ap is_open (settled_state_at states cell sized lt) ∙ (settled_open (cell_state states cell) ∙ shut)

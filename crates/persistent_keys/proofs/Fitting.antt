@@ -1,40 +1,40 @@
 -- An image that fits the contents of a filed store has its keys, and maybe some that are in doubt.
-use Rattle.persistent_keys.proofs.Common.{Absent, Attributes, Content, Doubt, Doubtful, FitsCell, FitsKeys, HasKey, HoldsKey, IsDamaged, IsDoubted, IsFiled, IsOf, Keys, List, Open, Present, Slot, Some, Stored, TellsCell, ap, arith, body, cell_slot, content_at, gate, has_id, inl, inr, length, of_one_key, opened_gate, refl, stored, subst, sym, true, ℕ, ⊎_elim, ◌<◌, ◌∙◌, ◌≡◌, ◌⊎◌}
+use Rattle.persistent_keys.proofs.Common.{Absent, Attributes, Content, Doubt, Doubtful, FitsCell, FitsKeys, HasKey, HoldsKey, IsDamaged, IsDoubted, IsFiled, IsOf, Keys, List, Open, Present, CellState, Some, Stored, TellsCell, ap, arith, body, cell_state, content_at, gate, has_id, inl, inr, length, of_one_key, opened_gate, refl, stored, subst, sym, true, ℕ, ⊎_elim, ◌<◌, ◌∙◌, ◌≡◌, ◌⊎◌}
 use Rattle.std.proofs.lemmas.Bool.{eqb-true}
 use Rattle.key_cells.specs.Prelude.{Fits}
 use Rattle.key_cells.proofs.Finding.{id_of}
 
 -- what is told of an open cell
-pub tells_open : (keys : Keys) (doubt : Doubt) (slot : Slot) (content : Content) (id : ℕ) → has_id id slot ≡ true → TellsCell keys doubt slot content
-    → (creation : ℕ) × (body : List ℕ) × (a : Attributes) × (bytes : List ℕ) × (slot ≡ Open id creation) × (content ≡ Present body) × HoldsKey a bytes body × (a.id.0 ≡ id) × (keys id ≡ Some (stored creation a bytes))
+pub tells_open : (keys : Keys) (doubt : Doubt) (state : CellState) (content : Content) (id : ℕ) → has_id id state ≡ true → TellsCell keys doubt state content
+    → (creation : ℕ) × (body : List ℕ) × (a : Attributes) × (bytes : List ℕ) × (state ≡ Open id creation) × (content ≡ Present body) × HoldsKey a bytes body × (a.id.0 ≡ id) × (keys id ≡ Some (stored creation a bytes))
 tells_open keys doubt (Open own creation) (Present body) id has t =
     let same : own ≡ id = eqb-true own id has in
     (creation, body, t.0, t.1, ap (λ i. Open i creation) same, refl, t.2, t.3 ∙ same, ap keys (sym same) ∙ t.4)
 tells_open keys doubt (Open own creation) content id has t = absurd t
-tells_open keys doubt slot content id has t = cc
+tells_open keys doubt state content id has t = cc
 
 -- a cell that may be open has a key that is there, or one that is in doubt
 Tells : Keys → Doubt → Attributes → List ℕ → Type 0
 Tells keys doubt a bytes = ((creation : ℕ) × (keys a.id.0 ≡ Some (stored creation a bytes))) ⊎ IsDoubted doubt a bytes
 
-open_tells : (keys : Keys) (doubt : Doubt) (slot : Slot) (content : Content) (g b : List ℕ) → TellsCell keys doubt slot content → FitsCell content g b → g ≡ opened_gate
+open_tells : (keys : Keys) (doubt : Doubt) (state : CellState) (content : Content) (g b : List ℕ) → TellsCell keys doubt state content → FitsCell content g b → g ≡ opened_gate
     → (a : Attributes) × (bytes : List ℕ) × HoldsKey a bytes b × IsOf a.id.0 content × Tells keys doubt a bytes
 unfolding Tells
-open_tells keys doubt slot Absent g b t fits is = absurd (fits is)
-open_tells keys doubt slot (Present body) g b t fits is = present slot t
+open_tells keys doubt state Absent g b t fits is = absurd (fits is)
+open_tells keys doubt state (Present body) g b t fits is = present state t
   where
-    present : (slot : Slot) → TellsCell keys doubt slot (Present body) → (a : Attributes) × (bytes : List ℕ) × HoldsKey a bytes b × IsOf a.id.0 (Present body) × Tells keys doubt a bytes
+    present : (state : CellState) → TellsCell keys doubt state (Present body) → (a : Attributes) × (bytes : List ℕ) × HoldsKey a bytes b × IsOf a.id.0 (Present body) × Tells keys doubt a bytes
     present (Open id creation) t = (t.0, t.1, subst (λ (x : List ℕ). HoldsKey t.0 t.1 x) (sym fits.1) t.2, (t.0, t.1, t.2, refl), inl (creation, ap keys t.3 ∙ t.4))
-    present slot t = absurd t
-open_tells keys doubt slot (Doubtful body) g b t fits is = doubtful slot t
+    present state t = absurd t
+open_tells keys doubt state (Doubtful body) g b t fits is = doubtful state t
   where
-    doubtful : (slot : Slot) → TellsCell keys doubt slot (Doubtful body) → (a : Attributes) × (bytes : List ℕ) × HoldsKey a bytes b × IsOf a.id.0 (Doubtful body) × Tells keys doubt a bytes
+    doubtful : (state : CellState) → TellsCell keys doubt state (Doubtful body) → (a : Attributes) × (bytes : List ℕ) × HoldsKey a bytes b × IsOf a.id.0 (Doubtful body) × Tells keys doubt a bytes
     doubtful (Open id creation) t = absurd t
-    doubtful slot t = (t.0, t.1, subst (λ (x : List ℕ). HoldsKey t.0 t.1 x) (sym (fits is)) t.2, (t.0, t.1, t.2, refl), inr t.3)
+    doubtful state t = (t.0, t.1, subst (λ (x : List ℕ). HoldsKey t.0 t.1 x) (sym (fits is)) t.2, (t.0, t.1, t.2, refl), inr t.3)
 
-module _ (keys : Keys) (doubt : Doubt) (slots : List Slot) (contents : List Content) (count : length contents ≡ 512) (f : IsFiled keys doubt slots contents) (image : List ℕ) (fits : Fits contents image) where
+module _ (keys : Keys) (doubt : Doubt) (states : List CellState) (contents : List Content) (count : length contents ≡ 512) (f : IsFiled keys doubt states contents) (image : List ℕ) (fits : Fits contents image) where
   at : (cell : ℕ) → cell < 512 → gate cell image ≡ opened_gate → (a : Attributes) × (bytes : List ℕ) × HoldsKey a bytes (body cell image) × IsOf a.id.0 (content_at contents cell) × Tells keys doubt a bytes
-  at cell lt is = open_tells keys doubt (cell_slot slots cell) (content_at contents cell) (gate cell image) (body cell image) (f.each cell lt) (fits.each cell lt) is
+  at cell lt is = open_tells keys doubt (cell_state states cell) (content_at contents cell) (gate cell image) (body cell image) (f.each cell lt) (fits.each cell lt) is
 
   undamaged : (cell : ℕ) → cell < 512 → IsDamaged image cell → ⊥
   undamaged cell lt damaged =
@@ -52,7 +52,7 @@ module _ (keys : Keys) (doubt : Doubt) (slots : List Slot) (contents : List Cont
   has_key : (id : ℕ) (key : Stored) → keys id ≡ Some key → HasKey key.attributes key.bytes image
   has_key id key is =
       let c = f.found id key is in
-      let o = tells_open keys doubt (cell_slot slots c.0) (content_at contents c.0) id c.2 (f.each c.0 c.1) in
+      let o = tells_open keys doubt (cell_state states c.0) (content_at contents c.0) id c.2 (f.each c.0 c.1) in
       let same : key ≡ stored o.0 o.2 o.3 = let e : Some key ≡ Some (stored o.0 o.2 o.3) = sym is ∙ o.8 in cc in
       let shown : FitsCell (Present o.1) (gate c.0 image) (body c.0 image) = subst (λ (x : Content). FitsCell x (gate c.0 image) (body c.0 image)) o.5 (fits.each c.0 c.1) in
       subst (λ (k : Stored). HasKey k.attributes k.bytes image) (sym same) (c.0, c.1, shown.0, subst (λ (x : List ℕ). HoldsKey o.2 o.3 x) (sym shown.1) o.6)

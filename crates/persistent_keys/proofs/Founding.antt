@@ -1,5 +1,5 @@
 -- What a file stands for that was opened.
-use Rattle.persistent_keys.proofs.Common.{Absent, AreFound, Content, Finds, Free, HasOneEach, HoldsId, HoldsKey, IfSome, IsFiled, IsFoundIn, IsOf, IsOpened, Keys, List, None, Open, Option, Present, Slot, Some, StandsForKeys, Stored, TellsCell, [], ap, arith, body, cases_eq, cell_slot, cond, content_at, content_of, creation_of_slot, false, found_in, gate, get_or-replicate, has_id, length, ne_eqb, refl, stored, subst, suc, sym, true, zero, ℕ, ⊎_elim, ◌+◌, ◌<◌, ◌==◌, ◌∙◌, ◌∷◌, ◌≡◌, ◌≢◌, ◌≤◌}
+use Rattle.persistent_keys.proofs.Common.{Absent, AreFound, Content, Finds, Free, HasOneEach, HoldsId, HoldsKey, IfSome, IsFiled, IsFoundIn, IsOf, IsOpened, Keys, List, None, Open, Option, Present, CellState, Some, StandsForKeys, Stored, TellsCell, [], ap, arith, body, cases_eq, cell_state, cond, content_at, content_of, creation_of_state, false, found_in, gate, get_or-replicate, has_id, length, ne_eqb, refl, stored, subst, suc, sym, true, zero, ℕ, ⊎_elim, ◌+◌, ◌<◌, ◌==◌, ◌∙◌, ◌∷◌, ◌≡◌, ◌≢◌, ◌≤◌}
 use Rattle.disk_face.specs.declared.Disk as Disk
 use Rattle.std.proofs.lemmas.Bool.{eqb-true, eq-eqb}
 use Rattle.key_cells.specs.Contents as cells
@@ -11,85 +11,85 @@ false_true : false ≡ true → ⊥
 false_true e = cc
 
 -- the content of a cell, as an opening found it
-pub FoundIn : Slot → Content → List ℕ → Type 0
+pub FoundIn : CellState → Content → List ℕ → Type 0
 FoundIn Free Absent body = Unit {0}
 FoundIn (Open id creation) (Present bytes) body = (bytes ≡ body) × HoldsId id body
-FoundIn slot content body = ⊥
+FoundIn state content body = ⊥
 
-found_cell : (slot : Slot) (g b : List ℕ) → Finds slot g b → FoundIn slot (content_of g b) b
+found_cell : (state : CellState) (g b : List ℕ) → Finds state g b → FoundIn state (content_of g b) b
 unfolding FoundIn
 found_cell Free g b f = subst (λ (c : Content). FoundIn Free c b) (sym (not_opened g b f)) tt
 found_cell (Open id creation) g b f = subst (λ (x : List ℕ). FoundIn (Open id creation) (content_of x b) b) (sym f.0) (refl, f.1)
-found_cell slot g b f = absurd f
+found_cell state g b f = absurd f
 
-module _ (slots : List Slot) (contents : List Content) (image : List ℕ) (sized : length slots ≡ 512) (one_each : HasOneEach 512 slots) (found : (cell : ℕ) → cell < 512 → FoundIn (cell_slot slots cell) (content_at contents cell) (body cell image)) (keys : Keys) (are : AreFound image slots keys) where
-  tells : (cell : ℕ) → cell < 512 → (slot : Slot) (content : Content) → cell_slot slots cell ≡ slot → FoundIn slot content (body cell image) → TellsCell keys [] slot content
+module _ (states : List CellState) (contents : List Content) (image : List ℕ) (sized : length states ≡ 512) (one_each : HasOneEach 512 states) (found : (cell : ℕ) → cell < 512 → FoundIn (cell_state states cell) (content_at contents cell) (body cell image)) (keys : Keys) (are : AreFound image states keys) where
+  tells : (cell : ℕ) → cell < 512 → (state : CellState) (content : Content) → cell_state states cell ≡ state → FoundIn state content (body cell image) → TellsCell keys [] state content
   unfolding FoundIn
   tells cell lt Free Absent is f = tt
   tells cell lt (Open id creation) (Present bytes) is f =
-      let has : has_id id (cell_slot slots cell) ≡ true = ap (has_id id) is ∙ eq-eqb id id refl in
+      let has : has_id id (cell_state states cell) ≡ true = ap (has_id id) is ∙ eq-eqb id id refl in
       let k = are.all id cell lt has in
       let t = are.there id k.0 k.1 in
       let same : t.0 ≡ cell = one_each id t.0 cell t.1 lt t.2 has in
       let holds : HoldsKey k.0.attributes k.0.bytes (body cell image) = subst (λ (j : ℕ). HoldsKey k.0.attributes k.0.bytes (body j image)) same t.3 in
-      let number : k.0.creation ≡ creation = t.4 ∙ (ap (λ (j : ℕ). creation_of_slot (cell_slot slots j)) same ∙ ap creation_of_slot is) in
+      let number : k.0.creation ≡ creation = t.4 ∙ (ap (λ (j : ℕ). creation_of_state (cell_state states j)) same ∙ ap creation_of_state is) in
       let id_is : k.0.attributes.id.0 ≡ id = one_id k.0.attributes.id.0 id (body cell image) (k.0.attributes, k.0.bytes, holds, refl) f.1 in
       (k.0.attributes, k.0.bytes, subst (λ (b : List ℕ). HoldsKey k.0.attributes k.0.bytes b) (sym f.0) holds, id_is, k.1 ∙ ap (λ (n : ℕ). Some (stored n k.0.attributes k.0.bytes)) number)
-  tells cell lt slot content is f = absurd f
+  tells cell lt state content is f = absurd f
 
-  of_open : (id : ℕ) (slot : Slot) (content : Content) (b : List ℕ) → FoundIn slot content b → IsOf id content → has_id id slot ≡ true
+  of_open : (id : ℕ) (state : CellState) (content : Content) (b : List ℕ) → FoundIn state content b → IsOf id content → has_id id state ≡ true
   unfolding FoundIn
   of_open id Free Absent b f is = absurd is
   of_open id (Open own creation) (Present bytes) b f is = eq-eqb own id (one_id own id b f.1 (subst (λ (x : List ℕ). HoldsId id x) f.0 is))
-  of_open id slot content b f is = absurd f
+  of_open id state content b f is = absurd f
 
-  found_filed : IsFiled keys [] slots contents
+  found_filed : IsFiled keys [] states contents
   found_filed = record {
     sized = sized;
-    each = λ cell lt. tells cell lt (cell_slot slots cell) (content_at contents cell) refl (found cell lt);
+    each = λ cell lt. tells cell lt (cell_state states cell) (content_at contents cell) refl (found cell lt);
     found = λ id key is. let t = are.there id key is in (t.0, t.1, t.2);
     apart = λ id cell other lt lt' is is'. one_each id cell other lt lt'
-        (of_open id (cell_slot slots cell) (content_at contents cell) (body cell image) (found cell lt) is)
-        (of_open id (cell_slot slots other) (content_at contents other) (body other image) (found other lt') is');
+        (of_open id (cell_state states cell) (content_at contents cell) (body cell image) (found cell lt) is)
+        (of_open id (cell_state states other) (content_at contents other) (body other image) (found other lt') is');
   }
 
-found_each : (image : List ℕ) (slots : List Slot) → IsFoundIn image slots → (cell : ℕ) → cell < 512 → FoundIn (cell_slot slots cell) (content_at (found_in image) cell) (body cell image)
+found_each : (image : List ℕ) (states : List CellState) → IsFoundIn image states → (cell : ℕ) → cell < 512 → FoundIn (cell_state states cell) (content_at (found_in image) cell) (body cell image)
 unfolding FoundIn
-found_each [] slots is cell lt = rw (ap (λ (l : List Slot). cell_slot l cell) is ∙ get_or-replicate 512 cell Free Free lt, get_or-replicate 512 cell Absent Absent lt) tt
-found_each (byte ∷ rest) slots is cell lt = rw (content_there cell (byte ∷ rest) lt) (found_cell (cell_slot slots cell) (gate cell (byte ∷ rest)) (body cell (byte ∷ rest)) (is.each cell lt))
+found_each [] states is cell lt = rw (ap (λ (l : List CellState). cell_state l cell) is ∙ get_or-replicate 512 cell Free Free lt, get_or-replicate 512 cell Absent Absent lt) tt
+found_each (byte ∷ rest) states is cell lt = rw (content_there cell (byte ∷ rest) lt) (found_cell (cell_state states cell) (gate cell (byte ∷ rest)) (body cell (byte ∷ rest)) (is.each cell lt))
 
 module _ {D : Type 0} (disks : Disk.Ghosts D) where
-  pub found_stands : (old new : D) (slots : List Slot) → IsOpened disks old new slots
-      → IfSome (disks.contents old) (λ image. (keys : Keys) → AreFound image slots keys → StandsForKeys disks new slots keys [])
-  found_stands old new slots o = by (disks.contents old) o.found o.stands
+  pub found_stands : (old new : D) (states : List CellState) → IsOpened disks old new states
+      → IfSome (disks.contents old) (λ image. (keys : Keys) → AreFound image states keys → StandsForKeys disks new states keys [])
+  found_stands old new states o = by (disks.contents old) o.found o.stands
     where
-      by : (x : Option (List ℕ)) → IfSome x (λ image. IsFoundIn image slots) → IfSome x (λ image. cells.StandsForContents disks new slots (found_in image))
-          → IfSome x (λ image. (keys : Keys) → AreFound image slots keys → StandsForKeys disks new slots keys [])
+      by : (x : Option (List ℕ)) → IfSome x (λ image. IsFoundIn image states) → IfSome x (λ image. cells.StandsForContents disks new states (found_in image))
+          → IfSome x (λ image. (keys : Keys) → AreFound image states keys → StandsForKeys disks new states keys [])
       by None found stands = tt
       by (Some image) found stands = λ keys are. record {
         contents = found_in image;
         stands = stands;
-        filed = found_filed slots (found_in image) image o.sized o.one (found_each image slots found) keys are;
+        filed = found_filed states (found_in image) image o.sized o.one (found_each image states found) keys are;
       }
 
 -- keys that stand in the first so many cells, each under its number
-record KeysBelow (image : List ℕ) (slots : List Slot) (count : ℕ) : Type 0 where
+record KeysBelow (image : List ℕ) (states : List CellState) (count : ℕ) : Type 0 where
   keys : Keys
   there : (id : ℕ) (key : Stored) → keys id ≡ Some key →
-      (cell : ℕ) × (cell < count) × (has_id id (cell_slot slots cell) ≡ true) × HoldsKey key.attributes key.bytes (body cell image) × (key.creation ≡ creation_of_slot (cell_slot slots cell))
-  all : (id cell : ℕ) → cell < count → has_id id (cell_slot slots cell) ≡ true → (key : Stored) × (keys id ≡ Some key)
+      (cell : ℕ) × (cell < count) × (has_id id (cell_state states cell) ≡ true) × HoldsKey key.attributes key.bytes (body cell image) × (key.creation ≡ creation_of_state (cell_state states cell))
+  all : (id cell : ℕ) → cell < count → has_id id (cell_state states cell) ≡ true → (key : Stored) × (keys id ≡ Some key)
 
 -- one cell more
-keys_next : (image : List ℕ) (slots : List Slot) (count : ℕ) → KeysBelow image slots count → (slot : Slot) (g : List ℕ) → cell_slot slots count ≡ slot → Finds slot g (body count image) → KeysBelow image slots (count + 1)
-keys_next image slots count below Free g is f = record {
+keys_next : (image : List ℕ) (states : List CellState) (count : ℕ) → KeysBelow image states count → (state : CellState) (g : List ℕ) → cell_state states count ≡ state → Finds state g (body count image) → KeysBelow image states (count + 1)
+keys_next image states count below Free g is f = record {
   keys = below.keys;
   there = λ id key e. let t = below.there id key e in (t.0, omega (arith, t.1), t.2, t.3, t.4);
   all = λ id cell lt has. ⊎_elim
-      (λ same. let z : false ≡ true = sym (ap (has_id id) (ap (cell_slot slots) same ∙ is)) ∙ has in absurd (false_true z))
+      (λ same. let z : false ≡ true = sym (ap (has_id id) (ap (cell_state states) same ∙ is)) ∙ has in absurd (false_true z))
       (λ differs. below.all id cell (omega (arith, lt, differs)) has)
       (cases_eq cell count);
 }
-keys_next image slots count below (Open own creation) g is f =
+keys_next image states count below (Open own creation) g is f =
     let a = f.1.0 in
     let key : Stored = stored creation a f.1.1 in
     record {
@@ -97,7 +97,7 @@ keys_next image slots count below (Open own creation) g is f =
       there = λ id k e. ⊎_elim
           (λ same. let z : Some key ≡ Some k = ap (λ t. cond t (Some key) (below.keys id)) (sym (eq-eqb id own same)) ∙ e in
           let k_is : key ≡ k = cc in
-          (count, omega arith, ap (has_id id) is ∙ eq-eqb own id (sym same), subst (λ (x : Stored). HoldsKey x.attributes x.bytes (body count image)) k_is f.1.2, ap (λ (x : Stored). x.creation) (sym k_is) ∙ sym (ap creation_of_slot is)))
+          (count, omega arith, ap (has_id id) is ∙ eq-eqb own id (sym same), subst (λ (x : Stored). HoldsKey x.attributes x.bytes (body count image)) k_is f.1.2, ap (λ (x : Stored). x.creation) (sym k_is) ∙ sym (ap creation_of_state is)))
           (λ differs. let t = below.there id k (ap (λ t. cond t (Some key) (below.keys id)) (sym (ne_eqb id own differs)) ∙ e) in (t.0, omega (arith, t.1), t.2, t.3, t.4))
           (cases_eq id own);
       all = λ id cell lt has. ⊎_elim
@@ -108,32 +108,32 @@ keys_next image slots count below (Open own creation) g is f =
           (cases_eq id own);
     }
   where
-    not_last : (id cell : ℕ) → id ≢ own → has_id id (cell_slot slots cell) ≡ true → cell ≢ count
-    not_last id cell differs has same = differs (sym (eqb-true own id (sym (ap (has_id id) (ap (cell_slot slots) same ∙ is)) ∙ has)))
-keys_next image slots count below slot g is f = absurd f
+    not_last : (id cell : ℕ) → id ≢ own → has_id id (cell_state states cell) ≡ true → cell ≢ count
+    not_last id cell differs has same = differs (sym (eqb-true own id (sym (ap (has_id id) (ap (cell_state states) same ∙ is)) ∙ has)))
+keys_next image states count below state g is f = absurd f
 
-keys_below : (image : List ℕ) (slots : List Slot) → ((cell : ℕ) → cell < 512 → Finds (cell_slot slots cell) (gate cell image) (body cell image)) → (count : ℕ) → count ≤ 512 → KeysBelow image slots count
-keys_below image slots each zero le = record {
+keys_below : (image : List ℕ) (states : List CellState) → ((cell : ℕ) → cell < 512 → Finds (cell_state states cell) (gate cell image) (body cell image)) → (count : ℕ) → count ≤ 512 → KeysBelow image states count
+keys_below image states each zero le = record {
   keys = λ id. None;
   there = λ id key e. cc;
   all = λ id cell lt has. absurd (omega (arith, lt));
 }
-keys_below image slots each (suc count) le =
-    subst (λ (n : ℕ). KeysBelow image slots n) (omega arith) (keys_next image slots count (keys_below image slots each count (omega (arith, le))) (cell_slot slots count) (gate count image) refl (each count (omega (arith, le))))
+keys_below image states each (suc count) le =
+    subst (λ (n : ℕ). KeysBelow image states n) (omega arith) (keys_next image states count (keys_below image states each count (omega (arith, le))) (cell_state states count) (gate count image) refl (each count (omega (arith, le))))
 
 -- an opening found keys
-pub found_keys : (image : List ℕ) (slots : List Slot) → IsFoundIn image slots → (keys : Keys) × AreFound image slots keys
-found_keys [] slots is = (
+pub found_keys : (image : List ℕ) (states : List CellState) → IsFoundIn image states → (keys : Keys) × AreFound image states keys
+found_keys [] states is = (
   λ id. None,
   record {
     there = λ id key e. cc;
-    all = λ id cell lt has. let z : false ≡ true = sym (ap (λ (l : List Slot). has_id id (cell_slot l cell)) is ∙ ap (has_id id) (get_or-replicate 512 cell Free Free lt)) ∙ has in absurd (false_true z);
+    all = λ id cell lt has. let z : false ≡ true = sym (ap (λ (l : List CellState). has_id id (cell_state l cell)) is ∙ ap (has_id id) (get_or-replicate 512 cell Free Free lt)) ∙ has in absurd (false_true z);
   },
 )
-found_keys (byte ∷ rest) slots is =
-    let below = keys_below (byte ∷ rest) slots is.each 512 (omega arith) in
+found_keys (byte ∷ rest) states is =
+    let below = keys_below (byte ∷ rest) states is.each 512 (omega arith) in
     (below.keys, record { there = below.there; all = below.all })
 
-pub some_found : (told : Option (List ℕ)) (slots : List Slot) → IfSome told (λ image. IsFoundIn image slots) → IfSome told (λ image. (keys : Keys) × AreFound image slots keys)
-some_found None slots found = tt
-some_found (Some image) slots found = found_keys image slots found
+pub some_found : (told : Option (List ℕ)) (states : List CellState) → IfSome told (λ image. IsFoundIn image states) → IfSome told (λ image. (keys : Keys) × AreFound image states keys)
+some_found None states found = tt
+some_found (Some image) states found = found_keys image states found

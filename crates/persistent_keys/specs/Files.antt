@@ -3,9 +3,9 @@ use Rattle.disk_face.specs.declared.Disk as Disk
 use Rattle.std.specs.Prelude.{◌≡◌, ◌⊎◌, ℕ, ◌<◌, ◌==◌, Bool, true, false, cond, List, [], ◌∷◌, length, Option, Some, ⊤}
 use Rattle.disk_face.specs.Moments.{Within}
 use Rattle.key_attributes.specs.declared.Attributes.{Attributes}
-use Rattle.key_cells.specs.declared.slot.Slot.{Slot}
-use Rattle.key_cells.specs.declared.slot.Slot.TheVariants.{Free, Open, Shut, Unsure}
-use Rattle.key_cells.specs.Prelude.{body, Content, Absent, Present, Doubtful, HasZeros, cell_slot, content_at, has_id, creation_of_slot, HoldsKey, HoldsId, Opens, HasKey}
+use Rattle.key_cells.specs.declared.state.CellState.{CellState}
+use Rattle.key_cells.specs.declared.state.CellState.TheVariants.{Free, Open, Shut, Unsure}
+use Rattle.key_cells.specs.Prelude.{body, Content, Absent, Present, Doubtful, HasZeros, cell_state, content_at, has_id, creation_of_state, HoldsKey, HoldsId, Opens, HasKey}
 use Rattle.key_cells.specs.Contents as cells
 use Rattle.persistent_keys.specs.declared.file.MakeFault.{MakeFault}
 use Rattle.persistent_keys.specs.declared.file.MakeFault.TheVariants.{Full, Disk}
@@ -42,7 +42,7 @@ abbrev pub IsDoubtedIn : Doubt → List ℕ → Type 0
 IsDoubtedIn doubt body = (a : Attributes) × (bytes : List ℕ) × HoldsKey a bytes body × IsDoubted doubt a bytes
 
 -- what the directory and the contents say of a cell
-abbrev pub TellsCell : Keys → Doubt → Slot → Content → Type 0
+abbrev pub TellsCell : Keys → Doubt → CellState → Content → Type 0
 TellsCell keys doubt Free Absent = ⊤
 TellsCell keys doubt Free (Present body) = ⊥
 TellsCell keys doubt Free (Doubtful body) = IsDoubtedIn doubt body
@@ -64,27 +64,27 @@ IsOf id (Doubtful body) = HoldsId id body
 
 -- each key is in exactly one open cell, which has its record; what else may be there is in doubt; no two cells have
 -- the same identifier
-pub record IsFiled (keys : Keys) (doubt : Doubt) (slots : List Slot) (contents : List Content) : Type 0 where
-  pub sized : length slots ≡ 512
-  pub each : (cell : ℕ) → cell < 512 → TellsCell keys doubt (cell_slot slots cell) (content_at contents cell)
-  pub found : (id : ℕ) (key : Stored) → keys id ≡ Some key → (cell : ℕ) × (cell < 512) × (has_id id (cell_slot slots cell) ≡ true)
+pub record IsFiled (keys : Keys) (doubt : Doubt) (states : List CellState) (contents : List Content) : Type 0 where
+  pub sized : length states ≡ 512
+  pub each : (cell : ℕ) → cell < 512 → TellsCell keys doubt (cell_state states cell) (content_at contents cell)
+  pub found : (id : ℕ) (key : Stored) → keys id ≡ Some key → (cell : ℕ) × (cell < 512) × (has_id id (cell_state states cell) ≡ true)
   pub apart : (id cell other : ℕ) → cell < 512 → other < 512 → IsOf id (content_at contents cell) → IsOf id (content_at contents other) → cell ≡ other
 
 -- a disk whose bytes are told, and a directory, stand for keys
-pub record StandsForKeys {D : Type 0} (disks : Disk.Ghosts D) (disk : D) (slots : List Slot) (keys : Keys) (doubt : Doubt) : Type 0 where
+pub record StandsForKeys {D : Type 0} (disks : Disk.Ghosts D) (disk : D) (states : List CellState) (keys : Keys) (doubt : Doubt) : Type 0 where
   pub contents : List Content
-  pub stands : cells.StandsForContents disks disk slots contents
-  pub filed : IsFiled keys doubt slots contents
+  pub stands : cells.StandsForContents disks disk states contents
+  pub filed : IsFiled keys doubt states contents
 
 abbrev pub FitsEitherKeys : Keys → Doubt → Keys → Doubt → List ℕ → Type 0
 FitsEitherKeys keys doubt keys' doubt' image = FitsKeys keys doubt image ⊎ FitsKeys keys' doubt' image
 
 -- A call leads from keys to keys, and a crash within it leaves either. A cell that is free before the call and after it
 -- is all zeros in every image that a crash within it leaves.
-pub record Leads {D : Type 0} (disks : Disk.Ghosts D) (old new : D) (slots slots' : List Slot) (keys : Keys) (doubt : Doubt) (keys' : Keys) (doubt' : Doubt) : Type 0 where
-  pub stands : StandsForKeys disks new slots' keys' doubt'
+pub record Leads {D : Type 0} (disks : Disk.Ghosts D) (old new : D) (states states' : List CellState) (keys : Keys) (doubt : Doubt) (keys' : Keys) (doubt' : Doubt) : Type 0 where
+  pub stands : StandsForKeys disks new states' keys' doubt'
   pub within : Within (disks.moment old) (disks.moment new) (disks.left_since old) (disks.left_since new) (FitsEitherKeys keys doubt keys' doubt')
-  pub zeros : (cell : ℕ) → cell < 512 → cell_slot slots cell ≡ Free → cell_slot slots' cell ≡ Free → Within (disks.moment old) (disks.moment new) (disks.left_since old) (disks.left_since new) (HasZeros cell)
+  pub zeros : (cell : ℕ) → cell < 512 → cell_state states cell ≡ Free → cell_state states' cell ≡ Free → Within (disks.moment old) (disks.moment new) (disks.left_since old) (disks.left_since new) (HasZeros cell)
 
 -- keys that differ at one identifier
 abbrev pub IsPut : Keys → Keys → ℕ → Option Stored → Type 0
@@ -102,7 +102,7 @@ doubt_unmade (Disk true) a bytes doubt = (a, bytes) ∷ []
 doubt_unmade (Disk false) a bytes doubt = doubt
 
 -- The keys that an opening found: each stands in the cell that the directory has for it, under its number.
-pub record AreFound (image : List ℕ) (slots : List Slot) (keys : Keys) : Type 0 where
+pub record AreFound (image : List ℕ) (states : List CellState) (keys : Keys) : Type 0 where
   pub there : (id : ℕ) (key : Stored) → keys id ≡ Some key →
-      (cell : ℕ) × (cell < 512) × (has_id id (cell_slot slots cell) ≡ true) × HoldsKey key.attributes key.bytes (body cell image) × (key.creation ≡ creation_of_slot (cell_slot slots cell))
-  pub all : (id cell : ℕ) → cell < 512 → has_id id (cell_slot slots cell) ≡ true → (key : Stored) × (keys id ≡ Some key)
+      (cell : ℕ) × (cell < 512) × (has_id id (cell_state states cell) ≡ true) × HoldsKey key.attributes key.bytes (body cell image) × (key.creation ≡ creation_of_state (cell_state states cell))
+  pub all : (id cell : ℕ) → cell < 512 → has_id id (cell_state states cell) ≡ true → (key : Stored) × (keys id ≡ Some key)

@@ -2,8 +2,8 @@
 ghost use Rattle.std.specs.Prelude.{◌≡◌, ◌≤◌, ◌<◌, ◌↔◌, ℕ, List, length, set, Bool, [], true, false, None, Some, IfOk, IfErr, IfSome, OnOk, OnErr, IsErrOf, MatchOption, count_by};
 ghost use Rattle.psa_status.specs.Causes.{HasCause, Rose};
 ghost use Rattle.disk_face.specs.Disk.{StillTells};
-ghost use Rattle.key_cells.specs.declared.slot.Slot.TheVariants.{Free, Open};
-ghost use Rattle.key_cells.specs.Prelude.{HasNoKey, IsFirstWithKey, IsFirstWithoutKey, IsFull, IsSure, has_id, is_open, creation_of_slot, settled_slots, cell_slot, IsKeyOf, IsOpened, IsRefused};
+ghost use Rattle.key_cells.specs.declared.state.CellState.TheVariants.{Free, Open};
+ghost use Rattle.key_cells.specs.Prelude.{HasNoKey, IsFirstWithKey, IsFirstWithoutKey, IsFull, IsSure, has_id, is_open, creation_of_state, settled_states, cell_state, IsKeyOf, IsOpened, IsOpeningRefused};
 ghost use Rattle.persistent_keys.specs.Files.{stored, Keys, Doubt, AreFound};
 ghost use Rattle.persistent_keys.specs.Calls.{StandsForThese, HasStored, KeepsFile, PutsInFile, LeavesUnmade, LeavesUndestroyed};
 ghost use Rattle.persistent_keys.specs.declared.file.MakeFault.TheVariants.{Disk};
@@ -38,13 +38,13 @@ impl<D: Disk> KeyFile<D> {
     /// Opens the file of a disk, or makes one on a disk of length 0. Nothing is in doubt then.
     pub fn open(alloc: Global, disk: D) -> Result<KeyFile<D>, (D, OpenFault)>
         ensures size { IfOk result (λ file. D.size file.cells.disk ≡ 557120) }
-        ensures slots { IfOk result (λ file. length file.cells.slots.items ≡ 512) }
-        ensures opened { IfOk result (λ file. IsOpened D.Disk disk file.cells.disk file.cells.slots.items) }
-        ensures keys { IfOk result (λ file. IfSome (D.contents disk) (λ image. (keys : Keys) → AreFound image file.cells.slots.items keys →
+        ensures states { IfOk result (λ file. length file.cells.states.items ≡ 512) }
+        ensures opened { IfOk result (λ file. IsOpened D.Disk disk file.cells.disk file.cells.states.items) }
+        ensures keys { IfOk result (λ file. IfSome (D.contents disk) (λ image. (keys : Keys) → AreFound image file.cells.states.items keys →
             StandsForThese D.Disk file keys [])) }
-        ensures found { IfOk result (λ file. IfSome (D.contents disk) (λ image. (keys : Keys) × AreFound image file.cells.slots.items keys)) }
+        ensures found { IfOk result (λ file. IfSome (D.contents disk) (λ image. (keys : Keys) × AreFound image file.cells.states.items keys)) }
         ensures later { IfOk result (λ file. D.faults disk ≤ D.faults file.cells.disk) }
-        ensures refused { IfErr result (λ refused. IsRefused D.Disk disk refused.0 refused.1) }
+        ensures refused { IfErr result (λ refused. IsOpeningRefused D.Disk disk refused.0 refused.1) }
     {
         match Cells::open(alloc, disk) {
             Ok(cells) => Ok(KeyFile { cells }),
@@ -54,7 +54,7 @@ impl<D: Disk> KeyFile<D> {
 
     /// The cell of a key.
     pub fn find(&self, id: u32) -> Option<usize>
-        ensures { MatchOption result (HasNoKey self.now.cells.slots.items id) (λ cell. IsFirstWithKey self.now.cells.slots.items id cell) }
+        ensures { MatchOption result (HasNoKey self.now.cells.states.items id) (λ cell. IsFirstWithKey self.now.cells.states.items id cell) }
     {
         self.cells.find(id)
     }
@@ -63,16 +63,16 @@ impl<D: Disk> KeyFile<D> {
     /// where the disk's faults rose; over a disk that tells its bytes, `Corrupt` never comes.
     pub fn load(&mut self, id: u32, cell: usize, out: &mut Secret) -> Result<Attributes, CellFault>
         requires size { D.size self.old.cells.disk ≡ 557120 }
-        requires slots { length self.old.cells.slots.items ≡ 512 }
+        requires states { length self.old.cells.states.items ≡ 512 }
         requires within { cell < 512 }
-        requires key { has_id id (cell_slot self.old.cells.slots.items cell) ≡ true }
+        requires key { has_id id (cell_state self.old.cells.states.items cell) ≡ true }
         ensures size { D.size self.new.cells.disk ≡ 557120 }
-        ensures slots { self.new.cells.slots ≡ self.old.cells.slots }
+        ensures states { self.new.cells.states ≡ self.old.cells.states }
         ensures same { D.contents self.new.cells.disk ≡ D.contents self.old.cells.disk }
         ensures named { IfOk result (λ attributes. attributes.id.0 ≡ id) }
         ensures key { IfOk result (λ attributes. IsKeyOf attributes (bytes_of out.new)) }
         ensures loaded { IfOk result (λ attributes. HasStored D.Disk self.old id
-            (stored (creation_of_slot (cell_slot self.old.cells.slots.items cell)) attributes (bytes_of out.new))) }
+            (stored (creation_of_state (cell_state self.old.cells.states.items cell)) attributes (bytes_of out.new))) }
         ensures keeps { KeepsFile D.Disk self.old self.new }
         ensures clear { OnErr result (IsClear out.new) }
         ensures disk { IsErrOf result CellFault.Disk → Rose (D.faults self.old.cells.disk) (D.faults self.new.cells.disk) }
@@ -93,20 +93,20 @@ impl<D: Disk> KeyFile<D> {
         bytes: &[u8],
     ) -> Result<(), MakeFault>
         requires size { D.size self.old.cells.disk ≡ 557120 }
-        requires slots { length self.old.cells.slots.items ≡ 512 }
+        requires states { length self.old.cells.states.items ≡ 512 }
         requires key { IsKeyOf attributes.now bytes.now }
-        requires none { HasNoKey self.old.cells.slots.items attributes.now.id.0 }
+        requires none { HasNoKey self.old.cells.states.items attributes.now.id.0 }
         ensures size { D.size self.new.cells.disk ≡ 557120 }
-        ensures slots { length self.new.cells.slots.items ≡ 512 }
+        ensures states { length self.new.cells.states.items ≡ 512 }
         ensures made { OnOk result (PutsInFile D.Disk self.old self.new attributes.now.id.0 (Some (stored creation attributes.now bytes.now))) }
         ensures failed { IfErr result (λ fault. LeavesUnmade D.Disk self.old self.new fault attributes.now bytes.now) }
-        ensures placed { OnOk result ((cell : ℕ) × IsFirstWithoutKey self.old.cells.slots.items cell ×
-            (self.new.cells.slots.items ≡ set (settled_slots self.old.cells.slots.items) cell (Open attributes.now.id.0 creation))) }
-        ensures unplaced { OnErr result (settled_slots self.new.cells.slots.items ≡ settled_slots self.old.cells.slots.items) }
+        ensures placed { OnOk result ((cell : ℕ) × IsFirstWithoutKey self.old.cells.states.items cell ×
+            (self.new.cells.states.items ≡ set (settled_states self.old.cells.states.items) cell (Open attributes.now.id.0 creation))) }
+        ensures unplaced { OnErr result (settled_states self.new.cells.states.items ≡ settled_states self.old.cells.states.items) }
         ensures tells { StillTells (D.contents self.old.cells.disk) (D.contents self.new.cells.disk) }
-        ensures full { IsErrOf result MakeFault.Full ↔ IsFull self.old.cells.slots.items }
-        ensures nothing { IsErrOf result MakeFault.Full → (self.new.cells.disk ≡ self.old.cells.disk) × (self.new.cells.slots ≡ self.old.cells.slots) }
-        ensures unclosed { IsErrOf result (Disk false) → IsSure self.old.cells.slots.items → ⊥ }
+        ensures full { IsErrOf result MakeFault.Full ↔ IsFull self.old.cells.states.items }
+        ensures nothing { IsErrOf result MakeFault.Full → (self.new.cells.disk ≡ self.old.cells.disk) × (self.new.cells.states ≡ self.old.cells.states) }
+        ensures unclosed { IsErrOf result (Disk false) → IsSure self.old.cells.states.items → ⊥ }
         ensures cause { (closed_first : Bool) → IsErrOf result (Disk closed_first) → Rose (D.faults self.old.cells.disk) (D.faults self.new.cells.disk) }
         ensures later { D.faults self.old.cells.disk ≤ D.faults self.new.cells.disk }
     {
@@ -129,16 +129,16 @@ impl<D: Disk> KeyFile<D> {
     /// Destroys the key of a cell. After a fault it is gone or in doubt.
     pub fn destroy(&mut self, id: u32, cell: usize) -> Result<(), Unclosed>
         requires size { D.size self.old.cells.disk ≡ 557120 }
-        requires slots { length self.old.cells.slots.items ≡ 512 }
+        requires states { length self.old.cells.states.items ≡ 512 }
         requires within { cell < 512 }
-        requires key { has_id id (cell_slot self.old.cells.slots.items cell) ≡ true }
+        requires key { has_id id (cell_state self.old.cells.states.items cell) ≡ true }
         ensures size { D.size self.new.cells.disk ≡ 557120 }
-        ensures slots { length self.new.cells.slots.items ≡ 512 }
-        ensures gone { OnOk result (self.new.cells.slots.items ≡ set (settled_slots self.old.cells.slots.items) cell Free) }
-        ensures missing { settled_slots self.new.cells.slots.items ≡ set (settled_slots self.old.cells.slots.items) cell Free }
+        ensures states { length self.new.cells.states.items ≡ 512 }
+        ensures gone { OnOk result (self.new.cells.states.items ≡ set (settled_states self.old.cells.states.items) cell Free) }
+        ensures missing { settled_states self.new.cells.states.items ≡ set (settled_states self.old.cells.states.items) cell Free }
         ensures destroyed { OnOk result (PutsInFile D.Disk self.old self.new id None) }
         ensures failed { IfErr result (λ fault. LeavesUndestroyed D.Disk self.old self.new id fault.closed_first) }
-        ensures unclosed { IfErr result (λ fault. fault.closed_first ≡ false → IsSure self.old.cells.slots.items → ⊥) }
+        ensures unclosed { IfErr result (λ fault. fault.closed_first ≡ false → IsSure self.old.cells.states.items → ⊥) }
         ensures tells { StillTells (D.contents self.old.cells.disk) (D.contents self.new.cells.disk) }
         ensures cause { HasCause (D.faults self.old.cells.disk) (D.faults self.new.cells.disk) result }
     {
@@ -159,15 +159,15 @@ impl<D: Disk> KeyFile<D> {
 
     /// The creation number of a cell's key.
     pub fn creation(&self, cell: usize) -> u64
-        requires { cell < length self.now.cells.slots.items }
-        ensures { result ≡ creation_of_slot (cell_slot self.now.cells.slots.items cell) }
+        requires { cell < length self.now.cells.states.items }
+        ensures { result ≡ creation_of_state (cell_state self.now.cells.states.items cell) }
     {
         self.cells.creation(cell)
     }
 
     /// How many keys there are that aren't in doubt.
     pub fn count(&self) -> usize
-        ensures { result ≡ count_by is_open self.now.cells.slots.items }
+        ensures { result ≡ count_by is_open self.now.cells.states.items }
     {
         self.cells.count()
     }

@@ -12,7 +12,7 @@ use Rattle.command_words.specs.declared.command.RunOptions.{RunOptions}
 use Rattle.session_host.specs.declared.lines.Unanswered.{Unanswered}
 use Rattle.session_host.specs.declared.lines.Unanswered.TheVariants.{NotOpened}
 use Rattle.session_host.specs.declared.lines.Unanswered.TheVariants as unanswered
-use Rattle.session_host.specs.Runs.{IsAnswered, IsUnanswered, IsUnopened}
+use Rattle.session_host.specs.Runs.{AreAnswered, IsUnanswered, IsUnopened}
 use Rattle.disk_face.specs.declared.Disk as Disk
 use Rattle.driver_dispatch.specs.declared.devices.Devices as Devices
 use Rattle.admission.specs.declared.rules.Admission as Admission
@@ -90,11 +90,11 @@ module _ {D A C : Type 0} (disks : Disk.Ghosts D) (elements : Devices.Ghosts A) 
   was_found : (replies : List ReplyLine) → Answers replies → IfSome (disks.contents disk) (λ image. HasStore (Some image))
   was_found replies r = found (disks.contents disk) r.answered.run.opening.found.found
     where
-      opens : (image : List ℕ) → IsFoundIn image r.answered.run.opened.file.value.cells.slots.items → HasStore (Some image)
+      opens : (image : List ℕ) → IsFoundIn image r.answered.run.opened.file.value.cells.states.items → HasStore (Some image)
       opens [] h = inl refl
       opens (byte ∷ rest) h = inr h.opens
 
-      found : (t : Option (List ℕ)) → IfSome t (λ image. IsFoundIn image r.answered.run.opened.file.value.cells.slots.items) → IfSome t (λ image. HasStore (Some image))
+      found : (t : Option (List ℕ)) → IfSome t (λ image. IsFoundIn image r.answered.run.opened.file.value.cells.states.items) → IfSome t (λ image. HasStore (Some image))
       found None h = tt
       found (Some image) h = opens image h
 
@@ -206,14 +206,14 @@ module _ {D A C : Type 0} (disks : Disk.Ghosts D) (elements : Devices.Ghosts A) 
 
   -- replies of these lines are a command's, where labels, seed and workers are the command's
   pub of_answered : (named : List Label) (seed : List ℕ) (workers : ℕ) (lines : List ScriptLine) (replies : List ReplyLine) → named ≡ labels_by command given → seed ≡ seed_by command → workers ≡ workers_by command →
-      AreLinesOf command left lines → IsAnswered disks elements admits disk devices named seed workers lines replies disk_after devices_after → Answers replies
+      AreLinesOf command left lines → AreAnswered disks elements admits disk devices named seed workers lines replies disk_after devices_after → Answers replies
   of_answered named seed workers lines replies same_labels same_seed same_workers are a = record {
     lines = lines;
     lines_are = are;
     answered =
-        subst (λ n. IsAnswered disks elements admits disk devices (labels_by command given) (seed_by command) n lines replies disk_after devices_after) same_workers
-        (subst (λ z. IsAnswered disks elements admits disk devices (labels_by command given) z workers lines replies disk_after devices_after) same_seed
-        (subst (λ n. IsAnswered disks elements admits disk devices n seed workers lines replies disk_after devices_after) same_labels a));
+        subst (λ n. AreAnswered disks elements admits disk devices (labels_by command given) (seed_by command) n lines replies disk_after devices_after) same_workers
+        (subst (λ z. AreAnswered disks elements admits disk devices (labels_by command given) z workers lines replies disk_after devices_after) same_seed
+        (subst (λ n. AreAnswered disks elements admits disk devices n seed workers lines replies disk_after devices_after) same_labels a));
   }
 
   pub of_unanswered : (named : List Label) (seed : List ℕ) (why : Unanswered) (old new : Option (List ℕ)) (lines : List ScriptLine) → named ≡ labels_by command given → seed ≡ seed_by command → AreLinesOf command left lines →

@@ -4,7 +4,7 @@ pub use Rattle.psa_command.specs.Commands.{AreLinesOf, EndsBy, HasStore, IsReada
 pub use Rattle.psa_command.specs.Ends.{IsBeforeOpening, IsOfImage, IsOfReading, IsWritten, exit_of, exit_unanswered}
 pub use Rattle.psa_command.specs.declared.exit.Exit.{Exit}
 pub use Rattle.psa_command.specs.declared.exit.Exit.TheVariants.{DamagedCell, DiskFault, Done, Memory, NotAStore, ReadFault, Script, Usage, WriteFault}
-pub use Rattle.script_lang.specs.Prelude.{AreAllKept, Read, ReplyLine, ScriptFails, goes_on, line_words, nothing_read, text_lines}
+pub use Rattle.script_lang.specs.Prelude.{AreAllKept, Read, ReplyLine, ScriptFails, or_bad_line, line_words, nothing_read, text_lines}
 unfoldable pub use Rattle.script_lang.specs.Prelude.{lines_at, script_of, words_at}
 pub use Rattle.script_lang.specs.declared.faults.ScriptFault.{ScriptFault}
 pub use Rattle.script_lang.specs.declared.replies.Replies.{Replies}

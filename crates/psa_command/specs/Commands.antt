@@ -11,7 +11,7 @@ use Rattle.line_generator.specs.Summary.{summary_of}
 use Rattle.command_words.specs.declared.command.Command.{Command}
 use Rattle.command_words.specs.declared.command.Command.TheVariants.{Run, Generate}
 use Rattle.session_host.specs.declared.lines.Unanswered.{Unanswered}
-use Rattle.session_host.specs.Runs.{IsAnswered, IsUnanswered}
+use Rattle.session_host.specs.Runs.{AreAnswered, IsUnanswered}
 use Rattle.psa_command.specs.declared.exit.Exit.{Exit}
 use Rattle.psa_command.specs.declared.exit.Exit.TheVariants.{Done, Usage, Script, ReadFault, WriteFault, NotAStore, DamagedCell, DiskFault, Memory}
 use Rattle.psa_command.specs.Ends.{TakesPart, exit_unanswered}
@@ -49,7 +49,7 @@ module _ {D A C : Type 0} (disks : Disk.Ghosts D) (elements : Devices.Ghosts A) 
   pub record IsRun (replies : List ReplyLine) : Type 0 where
     pub lines : List ScriptLine
     pub lines_are : AreLinesOf command left lines
-    pub answered : IsAnswered disks elements admits disk devices (labels_by command given) (seed_by command) (workers_by command) lines replies disk_after devices_after
+    pub answered : AreAnswered disks elements admits disk devices (labels_by command given) (seed_by command) (workers_by command) lines replies disk_after devices_after
 
   -- a command's lines had no replies, and it ended so
   pub record IsUnrun (exit : Exit) : Type 0 where

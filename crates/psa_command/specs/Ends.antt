@@ -61,16 +61,16 @@ exit_unanswered (NotOpened fault) = exit_of fault
 exit_unanswered unanswered.Memory = Memory
 
 -- the status that the program ends with
-abbrev pub status_of : Exit → ℕ
-status_of Done = 0
-status_of Usage = 1
-status_of (Script fault) = 2
-status_of ReadFault = 3
-status_of WriteFault = 4
-status_of NotAStore = 5
-status_of (DamagedCell cell) = 5
-status_of DiskFault = 6
-status_of Memory = 7
+abbrev pub exit_status : Exit → ℕ
+exit_status Done = 0
+exit_status Usage = 1
+exit_status (Script fault) = 2
+exit_status ReadFault = 3
+exit_status WriteFault = 4
+exit_status NotAStore = 5
+exit_status (DamagedCell cell) = 5
+exit_status DiskFault = 6
+exit_status Memory = 7
 
 -- what was taken grew by these bytes, or by their front
 abbrev pub TakesPart : List ℕ → Option (List ℕ) → Option (List ℕ) → Type 0

@@ -1,6 +1,6 @@
 //! How a run ends.
 ghost use Rattle.std.specs.Prelude.{◌≡◌};
-ghost use Rattle.psa_command.specs.Ends.{exit_of, exit_unanswered, status_of};
+ghost use Rattle.psa_command.specs.Ends.{exit_of, exit_unanswered, exit_status};
 
 use key_cells::OpenFault;
 use script_lang::ScriptFault;
@@ -23,7 +23,7 @@ pub enum Exit {
 impl Exit {
     /// The status that the program ends with.
     pub fn status(&self) -> u8
-        ensures { result ≡ status_of self.now }
+        ensures { result ≡ exit_status self.now }
     {
         match self {
             Exit::Done => 0,

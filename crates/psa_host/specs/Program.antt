@@ -1,14 +1,14 @@
 -- How the program ends, and its status.
 use Rattle.std.specs.Prelude.{ℕ, ◌≡◌, Option, None, IsSome, ⊤}
 use Rattle.command_words.specs.declared.command.Command.{Command}
-use Rattle.psa_command.specs.Ends.{status_of}
+use Rattle.psa_command.specs.Ends.{exit_status}
 use Rattle.psa_command.specs.declared.exit.Exit.TheVariants as exit
 use Rattle.psa_host.specs.declared.End.{End}
 use Rattle.psa_host.specs.declared.End.TheVariants.{Run, NotOpened}
 
 -- the status that the program ends with: as its run did, or 6 where the store's file isn't opened
 abbrev pub end_status : End → ℕ
-end_status (Run exit) = status_of exit
+end_status (Run exit) = exit_status exit
 end_status (NotOpened refusal) = 6
 
 -- how it ends without the store's file: it is refused; or isn't made, for words that are no command or want of memory

@@ -1,5 +1,5 @@
 -- Words drawn one after another.
-use Rattle.random_streams.proofs.Common.{ChaCha, IsSound, List, [], ap, ap₂, arith, bytes_of_words, key_of, next_word, random_bytes, seed_of, suc, to_le_bytes, w32, word_at, words_offered, words_used, zero, ℕ, ◌%◌, ◌++◌, ◌+◌, ◌^◌, ◌∙◌, ◌≡◌, ◌≤◌}
+use Rattle.random_streams.proofs.Common.{ChaCha, IsSoundGenerator, List, [], ap, ap₂, arith, bytes_of_words, key_of, next_word, random_bytes, seed_of, suc, to_le_bytes, w32, word_at, words_offered, words_used, zero, ℕ, ◌%◌, ◌++◌, ◌+◌, ◌^◌, ◌∙◌, ◌≡◌, ◌≤◌}
 use Rattle.rand_core.specs.Steps as steps
 
 abbrev pub at_place : ChaCha → ℕ → ChaCha
@@ -16,11 +16,11 @@ drawn g seed (suc n) key fits =
     ap step before
     ∙ ap₂ (λ (k : List ℕ) (p : ℕ). (bytes_of_words seed g.stream g.word_pos n ++ to_le_bytes w32 (word_at 10 k g.stream (g.word_pos + n)), at_place g p)) key place
 
-pub still_sound : (g : ChaCha) (n : ℕ) → IsSound g → n ≤ words_offered → IsSound (at_place g n)
+pub still_sound : (g : ChaCha) (n : ℕ) → IsSoundGenerator g → n ≤ words_offered → IsSoundGenerator (at_place g n)
 still_sound g n sound h = record { key = sound.key; place = h }
 
 -- a buffer filled, and where the generator stands then
-pub filled : (g after : ChaCha) (n : ℕ) (out : List ℕ) → IsSound g → g.word_pos + words_used n ≤ words_offered → (out, after) ≡ steps.fill_via_u32 (next_word 10) n g
+pub filled : (g after : ChaCha) (n : ℕ) (out : List ℕ) → IsSoundGenerator g → g.word_pos + words_used n ≤ words_offered → (out, after) ≡ steps.fill_via_u32 (next_word 10) n g
     → (out ≡ random_bytes (seed_of g.key) g.stream g.word_pos n) × (after ≡ at_place g (g.word_pos + words_used n))
 filled g after n out sound fits e =
     let both = e ∙ ap (steps.first_bytes n) (drawn g (seed_of g.key) (words_used n) sound.key fits) in

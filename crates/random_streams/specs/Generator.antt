@@ -7,6 +7,6 @@ abbrev pub stream_of : ChaCha → RandomStream
 stream_of g = record { seed = seed_of g.key; caller = g.stream; place = g.word_pos }
 
 -- the key is that of a seed, and no more words were drawn than are offered
-pub record IsSound (g : ChaCha) : Type 0 where
+pub record IsSoundGenerator (g : ChaCha) : Type 0 where
   pub key : g.key ≡ key_of (seed_of g.key)
   pub place : g.word_pos ≤ words_offered

@@ -21,11 +21,11 @@ impl Model for Stream {
 
     ghost Value = { RandomStream };
 
-    ghost use Rattle.random_streams.specs.Generator.{stream_of, IsSound};
+    ghost use Rattle.random_streams.specs.Generator.{stream_of, IsSoundGenerator};
 
     ghost view = { λ s. stream_of s.generator };
 
-    ghost invariant = { λ s. IsSound s.generator };
+    ghost invariant = { λ s. IsSoundGenerator s.generator };
 }
 
 impl Stream {

@@ -1,6 +1,6 @@
 -- What is in the grammar is read, and a text that is outside isn't: the answer is its first reason.
 use Rattle.std.proofs.Common.{Err, List, None, Ok, Option, Result, Some, [], ap, append_assoc, arith, false, inl, inr, le-ltb, length, lt-ltb, not, ok_or, refl, subst, suc, sym, true, ℕ, ◌++◌, ◌+◌, ◌∙◌, ◌∷◌, ◌≡◌, ◌⊎◌}
-use Rattle.script_lang.proofs.Common.{AreBadAfter, AreBadFields, AreBadFixed, AreBadWords, AreFields, AreFixed, AreSteps, BadKey, BadLine, Field, FieldValue, Fields, Fixed, IsBadField, IsBadFixed, IsBadValue, IsFault, IsField, IsFixed, IsKey, IsLine, IsScript, IsStep, KeyWord, Kind, Line, MissingField, Places, Read, Reason, RepeatedField, ScriptFault, ScriptLine, Shape, UnknownField, cut_of, demand, field_named, field_value, has_field, has_required, is_allowed, is_name, key_at, line_words, lines_at, no_words, nothing_read, parts_at, read_field, read_fields, read_fixed, row_named, script_of, session_of, text_lines, with_word, words_at}
+use Rattle.script_lang.proofs.Common.{AreBadAfter, AreBadFields, AreBadFixed, AreBadWords, AreFields, AreFixed, AreSteps, BadKey, BadLine, Field, FieldValue, Fields, Fixed, IsBadField, IsBadFixed, IsBadValue, IsFault, IsField, IsFixed, IsKeyWord, IsLine, IsScript, IsStep, KeyWord, Kind, Line, MissingField, Places, Read, Reason, RepeatedField, ScriptFault, ScriptLine, Shape, UnknownField, cut_of, demand, field_named, field_value, has_field, has_required, is_allowed, is_name, key_at, line_words, lines_at, no_words, nothing_read, parts_at, read_field, read_fields, read_fixed, row_named, script_of, session_of, text_lines, with_word, words_at}
 use Rattle.std.proofs.lemmas.Bool.{false_from_ne_true}
 use Rattle.std.proofs.lemmas.List.{append-nil}
 use Rattle.script_lang.specs.Steps.{◌>>=◌}
@@ -79,10 +79,10 @@ key_unread : (places : Places) (word : List ℕ) (r : Reason) → IsBadFixed pla
 unfolding key_at
 key_unread places word r (inl h) = go (key_ends places word) ∙ ap Err (sym h.0)
   where
-    go : {x : Result KeyWord Reason} → Ends (IsKey places word) (IsBadFixed places kind.Key word) x → x ≡ Err BadKey
+    go : {x : Result KeyWord Reason} → Ends (IsKeyWord places word) (IsBadFixed places kind.Key word) x → x ≡ Err BadKey
     go (reads {x = key} is) = absurd (h.1 places key is)
     go (fails (inl bad)) = ap Err bad.0
-    go (fails (inr bad)) = absurd (h.1 (λ name. Some 0) (Line 0) (subst (λ w. IsKey (λ name. Some 0) w (Line 0)) (sym bad.1.1) (refl, bad.1.2, refl)))
+    go (fails (inr bad)) = absurd (h.1 (λ name. Some 0) (Line 0) (subst (λ w. IsKeyWord (λ name. Some 0) w (Line 0)) (sym bad.1.1) (refl, bad.1.2, refl)))
 key_unread places word r (inr h) = rw (h.1.1, name_again h.1.0 h.1.2, h.1.3, h.0) refl
 
 word_unread : (places : Places) (k : Kind) (fixed : Fixed) (w : List ℕ) (r : Reason) → IsBadFixed places k w r → with_word places k fixed w ≡ Err r

@@ -5,8 +5,8 @@ pub use Rattle.script_lang.specs.Commands.{IsRow}
 unfoldable pub use Rattle.script_lang.specs.Commands.{row_named, rows}
 pub use Rattle.script_lang.specs.Fields.{BytesForm, Fields, Form, LongForm, ShortForm, WordForm, all_fields, field_name, field_named, form_of, form_value, has_field, has_required, is_allowed}
 unfoldable pub use Rattle.script_lang.specs.Fields.{field_value, read_field, read_fields}
-pub use Rattle.script_lang.specs.Grammar.{AreFields, AreFixed, AreSteps, IsField, IsFixed, IsForm, IsKey, IsLetter, IsLine, IsName, IsNameByte, IsNumber, IsOneTo, IsScript, IsStep}
-pub use Rattle.script_lang.specs.Lines.{IsOfSession, Places, Read, ScriptFails, call_of, fault_at, given_place, goes_on, handle_at, is_letter, is_name_byte, lines_of, no_words, nothing_read, with_call}
+pub use Rattle.script_lang.specs.Grammar.{AreFields, AreFixed, AreSteps, IsField, IsFixed, IsForm, IsKeyWord, IsLetter, IsLine, IsName, IsNameByte, IsNumber, IsOneTo, IsScript, IsStep}
+pub use Rattle.script_lang.specs.Lines.{IsOfSession, Places, Read, ScriptFails, call_of, fault_at, given_place, or_bad_line, handle_at, is_letter, is_name_byte, lines_of, no_words, nothing_read, with_call}
 unfoldable pub use Rattle.script_lang.specs.Lines.{is_name, key_at, lines_at, parts_at, read_fixed, script_of, session_of, with_word, words_at}
 pub use Rattle.script_lang.specs.Numbers.{digit_in, from_least, number}
 unfoldable pub use Rattle.script_lang.specs.Numbers.{number_from}

@@ -1,7 +1,7 @@
 -- A text is read as calls where the grammar says that it says them, and refused where it is outside, for the reason that
 -- is answered.
 use Rattle.std.proofs.Common.{Bool, Err, List, None, Ok, Option, Result, Some, [], ap, append_assoc, ap₂, arith, cond, false, find, inl, inr, length, ltb-false, ltb-true, nat_lt, option_map, refl, subst, suc, sym, true, ℕ, ◌++◌, ◌+◌, ◌==◌, ◌∙◌, ◌∷◌, ◌≡◌, ◌⊎◌}
-use Rattle.script_lang.proofs.Common.{AreBadAfter, AreBadFields, AreBadFixed, AreBadWords, AreFields, AreFixed, AreSteps, BadLine, BadName, BadSession, Field, FieldValue, Fields, Fixed, IsBadField, IsBadFixed, IsFault, IsField, IsFixed, IsRow, IsScript, IsStep, Kind, MissingField, Places, Read, Reason, RepeatedField, ScriptCall, ScriptFault, ScriptLine, Shape, TooLong, TooManyLines, UnknownCommand, UnknownField, all_fields, bytes_eq-Decides, call_of, cut_of, field_name, field_named, goes_on, has_field, has_required, is_allowed, is_name, line_words, lines_at, no_words, nothing_read, parts_at, read_field, read_fields, read_fixed, row_named, rows, script_of, session_of, text_lines, with_call, with_word, words_at}
+use Rattle.script_lang.proofs.Common.{AreBadAfter, AreBadFields, AreBadFixed, AreBadWords, AreFields, AreFixed, AreSteps, BadLine, BadName, BadSession, Field, FieldValue, Fields, Fixed, IsBadField, IsBadFixed, IsFault, IsField, IsFixed, IsRow, IsScript, IsStep, Kind, MissingField, Places, Read, Reason, RepeatedField, ScriptCall, ScriptFault, ScriptLine, Shape, TooLong, TooManyLines, UnknownCommand, UnknownField, all_fields, bytes_eq-Decides, call_of, cut_of, field_name, field_named, or_bad_line, has_field, has_required, is_allowed, is_name, line_words, lines_at, no_words, nothing_read, parts_at, read_field, read_fields, read_fixed, row_named, rows, script_of, session_of, text_lines, with_call, with_word, words_at}
 use Rattle.std.proofs.lemmas.Bool.{both_ways, eqb-true}
 use Rattle.std.proofs.lemmas.List.{append-nil}
 use Rattle.std.proofs.lemmas.Option.{none-some, same_Some}
@@ -160,7 +160,7 @@ lines_end n read (text ∷ texts) = go (words_at read (line_words text)) (words_
 
     go : (x : Result Read Reason) → Ends (IsStep read (line_words text)) (AreBadWords read (line_words text)) x →
         ((next : Read) → Ends (AreRead next texts) (AreBadLines (n + 1) next texts) (lines_at (n + 1) next texts)) →
-        Ends (AreRead read (text ∷ texts)) (AreBadLines n read (text ∷ texts)) (goes_on x n (λ next. lines_at (n + 1) next texts))
+        Ends (AreRead read (text ∷ texts)) (AreBadLines n read (text ∷ texts)) (or_bad_line x n (λ next. lines_at (n + 1) next texts))
     go (Err r) (fails bad) more =
         fails (record { before = []; line = text; after = texts; last = read; reason = r; joined = refl; steps = refl; bad = bad; is_fault = ap (λ m. BadLine m r) (first n) })
     go (Ok next) (reads is) more = weaker (more next)

@@ -1,6 +1,6 @@
 -- Numbers, sessions, names, keys and values: what is read of a text is what the grammar says of it.
 use Rattle.std.proofs.Common.{Bool, Err, List, None, Ok, Option, Result, Some, inl, inr, le-ltb, [], ap, arith, cond, eq-eqb, eqb-true, false, get_or, le-leb, leb-true, length, lt-ltb, ltb-false, ltb-true, nat_le, nat_lt, ne_eqb, ok_or, option_and_then, option_map, refl, subst, sym, true, ℕ, ◌&&◌, ◌*◌, ◌+◌, ◌-◌, ◌<◌, ◌==◌, ◌^◌, ◌||◌, ◌∙◌, ◌∷◌, ◌≡◌, ◌≤◌}
-use Rattle.script_lang.proofs.Common.{AllPass-from_list_all, BadHandle, BadKey, BadValue, BytesForm, Field, FieldValue, Form, Given, IsBadFixed, IsForm, IsKey, IsLetter, IsName, IsNameByte, IsNumber, IsOneTo, KeyWord, Line, LongForm, Places, ShortForm, UnknownName, WordForm, begins_with, decode_of, digit_in, field_value, form_of, form_value, from_least, handle_at, is_letter, is_name, is_name_byte, key_at, list_all-from_AllPass, nat_tests, number, number_from, session_of}
+use Rattle.script_lang.proofs.Common.{AllPass-from_list_all, BadHandle, BadKey, BadValue, BytesForm, Field, FieldValue, Form, Given, IsBadFixed, IsForm, IsKeyWord, IsLetter, IsName, IsNameByte, IsNumber, IsOneTo, KeyWord, Line, LongForm, Places, ShortForm, UnknownName, WordForm, begins_with, decode_of, digit_in, field_value, form_of, form_value, from_least, handle_at, is_letter, is_name, is_name_byte, key_at, list_all-from_AllPass, nat_tests, number, number_from, session_of}
 use Rattle.std.specs.Bool.{Decides}
 use Rattle.std.specs.Result.{result_ok}
 use Rattle.std.specs.Char.{digit_value}
@@ -116,34 +116,34 @@ name_again (c ∷ cs) h =
 abbrev pub given : ℕ → KeyWord
 given n = Given (record { 0 = n })
 
-pub key_ends : (places : Places) (word : List ℕ) → Ends (IsKey places word) (IsBadFixed places kind.Key word) (key_at places word)
+pub key_ends : (places : Places) (word : List ℕ) → Ends (IsKeyWord places word) (IsBadFixed places kind.Key word) (key_at places word)
 unfolding key_at
 key_ends places [] = fails (inl (refl, λ names key is. is))
 key_ends places (c ∷ cs) = go (c == 35) (c == 36 && is_name cs) refl refl
   where
-    none : number 16 8 (2 ^ 32) cs ≡ None → c ≡ 35 → (names : Places) (key : KeyWord) → IsKey names (c ∷ cs) key → ⊥
+    none : number 16 8 (2 ^ 32) cs ≡ None → c ≡ 35 → (names : Places) (key : KeyWord) → IsKeyWord names (c ∷ cs) key → ⊥
     none e hash names (Given id) is = none-some id.0 (sym e ∙ number_again 16 8 (2 ^ 32) cs id.0 is.1)
     none e hash names (Line place) is = absurd (omega (arith, hash, is.0))
 
-    neither : (c == 35) ≡ false → (c == 36 && is_name cs) ≡ false → (names : Places) (key : KeyWord) → IsKey names (c ∷ cs) key → ⊥
+    neither : (c == 35) ≡ false → (c == 36 && is_name cs) ≡ false → (names : Places) (key : KeyWord) → IsKeyWord names (c ∷ cs) key → ⊥
     neither t u names (Given id) is = eqb-false c 35 t is.0
     neither t u names (Line place) is = both_ways _ u (and_from _ _ (eq-eqb c 36 is.0) (name_again cs is.1))
 
-    by_number : (o : Option ℕ) → number 16 8 (2 ^ 32) cs ≡ o → c ≡ 35 → Ends (IsKey places (c ∷ cs)) (IsBadFixed places kind.Key (c ∷ cs)) (ok_or (option_map given o) BadKey)
+    by_number : (o : Option ℕ) → number 16 8 (2 ^ 32) cs ≡ o → c ≡ 35 → Ends (IsKeyWord places (c ∷ cs)) (IsBadFixed places kind.Key (c ∷ cs)) (ok_or (option_map given o) BadKey)
     by_number None e hash = fails (inl (refl, none e hash))
     by_number (Some n) e hash = reads (hash, number_means 16 8 (2 ^ 32) cs n e)
 
-    by_name : (o : Option ℕ) → places cs ≡ o → (c ≡ 36) × IsName cs → Ends (IsKey places (c ∷ cs)) (IsBadFixed places kind.Key (c ∷ cs)) (ok_or (option_map Line o) UnknownName)
+    by_name : (o : Option ℕ) → places cs ≡ o → (c ≡ 36) × IsName cs → Ends (IsKeyWord places (c ∷ cs)) (IsBadFixed places kind.Key (c ∷ cs)) (ok_or (option_map Line o) UnknownName)
     by_name None e is = fails (inr (refl, (cs, ap (λ d. d ∷ cs) is.0, is.1, e)))
     by_name (Some place) e is = reads (is.0, is.1, e)
 
-    go : (b d : Bool) → (c == 35) ≡ b → (c == 36 && is_name cs) ≡ d → Ends (IsKey places (c ∷ cs)) (IsBadFixed places kind.Key (c ∷ cs))
+    go : (b d : Bool) → (c == 35) ≡ b → (c == 36 && is_name cs) ≡ d → Ends (IsKeyWord places (c ∷ cs)) (IsBadFixed places kind.Key (c ∷ cs))
         (cond b (ok_or (option_map given (number 16 8 (2 ^ 32) cs)) BadKey) (cond d (ok_or (option_map Line (places cs)) UnknownName) (Err BadKey)))
     go true d t u = by_number (number 16 8 (2 ^ 32) cs) refl (eqb-true c 35 t)
     go false true t u = let k = and_parts _ _ u in by_name (places cs) refl (eqb-true c 36 k.0, name_means cs k.1)
     go false false t u = fails (inl (refl, neither t u))
 
-pub key_again : (places : Places) (word : List ℕ) (key : KeyWord) → IsKey places word key → key_at places word ≡ Ok key
+pub key_again : (places : Places) (word : List ℕ) (key : KeyWord) → IsKeyWord places word key → key_at places word ≡ Ok key
 unfolding key_at
 key_again places [] key h = absurd h
 key_again places (c ∷ cs) (Given id) h = rw (h.0, number_again 16 8 (2 ^ 32) cs id.0 h.1) refl

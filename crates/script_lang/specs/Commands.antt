@@ -20,8 +20,8 @@ use Rattle.script_lang.specs.declared.operation_commands.AeadCommand.{AeadComman
 use Rattle.script_lang.specs.declared.operation_commands.AeadCommand.TheVariants as aead
 use Rattle.script_lang.specs.declared.operation_commands.DerivationCommand.{DerivationCommand}
 use Rattle.script_lang.specs.declared.operation_commands.DerivationCommand.TheVariants as derivation
-use Rattle.script_lang.specs.declared.commands.Command.{Command}
-use Rattle.script_lang.specs.declared.commands.Command.TheVariants as command
+use Rattle.script_lang.specs.declared.commands.ScriptCommand.{ScriptCommand}
+use Rattle.script_lang.specs.declared.commands.ScriptCommand.TheVariants as command
 use Rattle.script_lang.specs.declared.commands.Kind.TheVariants as kind
 use Rattle.script_lang.specs.declared.fields.Field.TheVariants as field
 use Rattle.script_lang.specs.declared.script.KeyWord.{KeyWord}
@@ -89,9 +89,9 @@ abbrev pub IsRow : Shape → Type 0
 IsRow r = row_named r.word ≡ Some r
 
 -- the key that a word names, by the identifiers that the session's calls before gave
-abbrev pub key_of : List ℕ → KeyWord → ℕ
-key_of ids (Given id) = id.0
-key_of ids (Line place) = slice_index ids place
+abbrev pub key_id_of : List ℕ → KeyWord → ℕ
+key_id_of ids (Given id) = id.0
+key_id_of ids (Line place) = slice_index ids place
 
 -- what a line asks, by the key that it names and its fields
 
@@ -158,7 +158,7 @@ derivation_call derivation.OutputKey id fs = operation.OutputKey (attributes_at 
 derivation_call derivation.VerifyBytes id fs = operation.OnDerivation (VerifyBytes (data_at fs))
 
 -- the request of a command with a key and a handle, where its line names them, and fields
-abbrev pub request : Command → (id handle : ℕ) → Fields → Request
+abbrev pub request : ScriptCommand → (id handle : ℕ) → Fields → Request
 request (command.Key c) id handle fs = OnStore (key_call c id fs)
 request (command.SinglePart c) id handle fs = OnStore (single_part_call c id fs)
 request (command.Hash c) id handle fs = OnHandle handle (hash_call c fs)
@@ -170,4 +170,4 @@ request command.Abort id handle fs = OnHandle handle operation.Abort
 
 -- the request that a line makes, where its session's calls before gave these identifiers
 abbrev pub request_of : List ℕ → ScriptCall → Request
-request_of ids call = request call.command (key_of ids call.key) call.handle call.fields
+request_of ids call = request call.command (key_id_of ids call.key) call.handle call.fields

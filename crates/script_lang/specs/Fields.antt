@@ -121,9 +121,9 @@ abbrev pub long_of : Option (Field × FieldValue) → ℕ
 long_of (Some (f, Long n)) = n
 long_of _ = 0
 
-abbrev pub bytes_of : Option (Field × FieldValue) → List ℕ
-bytes_of (Some (f, Bytes b)) = b
-bytes_of _ = []
+abbrev pub bytes_of_value : Option (Field × FieldValue) → List ℕ
+bytes_of_value (Some (f, Bytes b)) = b
+bytes_of_value _ = []
 
 abbrev pub short_at : ℕ → Field → Fields → ℕ
 short_at default f fs = short_of default (find (is_field f) fs)
@@ -140,7 +140,7 @@ abbrev pub room_at : Fields → ℕ
 room_at fs = min 16448 (short_at (short_at 16448 field.Room fs) field.Length fs)
 
 abbrev pub bytes_at : Field → Fields → List ℕ
-bytes_at f fs = bytes_of (find (is_field f) fs)
+bytes_at f fs = bytes_of_value (find (is_field f) fs)
 
 abbrev pub alg_at : Fields → ℕ
 alg_at fs = word_at field.Alg fs

@@ -53,10 +53,10 @@ IsName [] = ⊥
 IsName (c ∷ cs) = IsLetter c × (length cs ≤ 15) × All IsNameByte cs
 
 -- a key: `#` and 1 to 8 hex digits, or `$` and a name that an earlier line of the session gave
-abbrev pub IsKey : Places → List ℕ → KeyWord → Type 0
-IsKey places [] key = ⊥
-IsKey places (c ∷ cs) (Given id) = (c ≡ 35) × IsNumber 16 8 (2 ^ 32) cs id.0
-IsKey places (c ∷ cs) (Line place) = (c ≡ 36) × IsName cs × (places cs ≡ Some place)
+abbrev pub IsKeyWord : Places → List ℕ → KeyWord → Type 0
+IsKeyWord places [] key = ⊥
+IsKeyWord places (c ∷ cs) (Given id) = (c ≡ 35) × IsNumber 16 8 (2 ^ 32) cs id.0
+IsKeyWord places (c ∷ cs) (Line place) = (c ≡ 36) × IsName cs × (places cs ≡ Some place)
 
 -- one of the numbers 1 to `last`, in decimal
 abbrev pub IsOneTo : (last : ℕ) → List ℕ → ℕ → Type 0
@@ -65,7 +65,7 @@ IsOneTo last word n = (word ≡ decimal n) × (1 ≤ n) × (n ≤ last)
 -- a fixed word of a kind, and the fixed words with it
 abbrev pub IsFixed : Places → Kind → Fixed → List ℕ → Fixed → Type 0
 IsFixed places kind.Name fixed word next = IsName word × (record fixed { name = Some word } ≡ next)
-IsFixed places kind.Key fixed word next = (key : KeyWord) × IsKey places word key × (record fixed { key = key } ≡ next)
+IsFixed places kind.Key fixed word next = (key : KeyWord) × IsKeyWord places word key × (record fixed { key = key } ≡ next)
 IsFixed places kind.Handle fixed word next = (handle : ℕ) × IsOneTo 4 word handle × (record fixed { handle = handle } ≡ next)
 
 abbrev pub AreFixed : Places → List Kind → Fixed → List (List ℕ) → Fixed → Type 0

@@ -125,14 +125,14 @@ words_at read (word ∷ ws) = do
   parts ← parts_at (read.places session) row (drop 1 ws)
   Ok (with_call read session parts.0 parts.1)
 
-abbrev pub goes_on : Result Read Reason → ℕ → (Read → Result (List ScriptLine) ScriptFault) → Result (List ScriptLine) ScriptFault
-goes_on (Ok next) n f = f next
-goes_on (Err r) n f = Err (BadLine n r)
+abbrev pub or_bad_line : Result Read Reason → ℕ → (Read → Result (List ScriptLine) ScriptFault) → Result (List ScriptLine) ScriptFault
+or_bad_line (Ok next) n f = f next
+or_bad_line (Err r) n f = Err (BadLine n r)
 
 -- the lines from one number on, or the first that is outside the grammar
 unfoldable pub lines_at : ℕ → Read → List (List ℕ) → Result (List ScriptLine) ScriptFault
 lines_at n read [] = Ok read.lines
-lines_at n read (line ∷ lines) = goes_on (words_at read (line_words line)) n (λ next. lines_at (n + 1) next lines)
+lines_at n read (line ∷ lines) = or_bad_line (words_at read (line_words line)) n (λ next. lines_at (n + 1) next lines)
 
 -- the calls of a text, or why it isn't a script
 unfoldable pub script_of : List ℕ → Result (List ScriptLine) ScriptFault

@@ -6,7 +6,7 @@ use Rattle.script_lang.specs.Shapes.{Shape}
 use Rattle.script_lang.specs.Commands.{IsRow}
 use Rattle.script_lang.specs.Fields.{Fields, form_of, field_name, is_allowed, has_field, has_required}
 use Rattle.script_lang.specs.Lines.{Places, Read, nothing_read, no_words}
-use Rattle.script_lang.specs.Grammar.{IsForm, IsField, IsName, IsKey, IsOneTo, IsFixed, AreFixed, AreSteps}
+use Rattle.script_lang.specs.Grammar.{IsForm, IsField, IsName, IsKeyWord, IsOneTo, IsFixed, AreFixed, AreSteps}
 use Rattle.script_lang.specs.declared.faults.Reason.{Reason}
 use Rattle.script_lang.specs.declared.faults.Reason.TheVariants.{BadSession, UnknownCommand, MissingWord, BadHandle, BadName, BadKey, UnknownName, UnknownField, RepeatedField, BadValue, MissingField}
 use Rattle.script_lang.specs.declared.faults.ScriptFault.{ScriptFault}
@@ -22,7 +22,7 @@ use Rattle.script_lang.specs.declared.commands.Kind.TheVariants as kind
 abbrev pub IsBadFixed : Places → Kind → List ℕ → Reason → Type 0
 IsBadFixed places kind.Name word r = (r ≡ BadName) × (IsName word → ⊥)
 IsBadFixed places kind.Key word r =
-    ((r ≡ BadKey) × ((given : Places) (key : KeyWord) → IsKey given word key → ⊥))
+    ((r ≡ BadKey) × ((given : Places) (key : KeyWord) → IsKeyWord given word key → ⊥))
     ⊎ ((r ≡ UnknownName) × ((name : List ℕ) × (word ≡ 36 ∷ name) × IsName name × (places name ≡ None)))
 IsBadFixed places kind.Handle word r = (r ≡ BadHandle) × ((handle : ℕ) → IsOneTo 4 word handle → ⊥)
 

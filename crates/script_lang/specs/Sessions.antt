@@ -4,26 +4,26 @@ use Rattle.std.specs.Str.{bytes_eq}
 use Rattle.std.specs.HashMap.{get_by}
 use Rattle.script_lang.specs.Lines.{Places, Read, lines_of}
 use Rattle.script_lang.specs.declared.script.ScriptLine.{ScriptLine}
-use Rattle.script_lang.specs.declared.sessions.Session.{Session}
+use Rattle.script_lang.specs.declared.sessions.SessionNames.{SessionNames}
 
 -- what the names of a session stand for
-unfoldable pub places_of : Session → Places
+unfoldable pub places_of : SessionNames → Places
 places_of session name = get_by (λ k. bytes_eq name k.items) session.names
 
-abbrev pub places_in : Option Session → Places
+abbrev pub places_in : Option SessionNames → Places
 places_in None = λ name. None
 places_in (Some session) = places_of session
 
 -- what stands for what was read: the calls, and the sessions, each at its number
-abbrev pub read_of : List ScriptLine → List Session → Read
+abbrev pub read_of : List ScriptLine → List SessionNames → Read
 read_of lines sessions = record { lines = lines; places = λ s. places_in (slice_get sessions s) }
 
 -- each session counts its calls
-pub record AreCounted (lines : List ScriptLine) (sessions : List Session) : Type 0 where
+pub record AreCounted (lines : List ScriptLine) (sessions : List SessionNames) : Type 0 where
   pub seventeen : length sessions ≡ 17
   pub counts : (s : ℕ) → IfSome (slice_get sessions s) (λ session. session.calls ≡ length (lines_of s lines))
 
 -- a session of which nothing was read
-pub record IsNew (session : Session) : Type 0 where
+pub record IsNew (session : SessionNames) : Type 0 where
   pub calls : session.calls ≡ 0
   pub places : (name : List ℕ) → places_of session name ≡ None

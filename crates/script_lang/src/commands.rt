@@ -26,7 +26,7 @@ pub enum Kind {
 
 /// A command.
 #[derive(Clone, Copy, Drop)]
-pub enum Command {
+pub enum ScriptCommand {
     Key(KeyCommand),
     SinglePart(SinglePartCommand),
     Hash(HashCommand),
@@ -41,7 +41,7 @@ pub enum Command {
 #[derive(Clone, Copy, Drop)]
 pub(crate) struct Row {
     pub word: &'static [u8],
-    pub command: Command,
+    pub command: ScriptCommand,
     pub fixed: &'static [Kind],
     pub required: &'static [Field],
     pub optional: &'static [Field],
@@ -60,55 +60,55 @@ macro_rules! rows {
 }
 
 const ROWS: &[Row] = rows![
-    b"import", Command::Key(KeyCommand::Import), [Name], [Type, Usage, Alg, Data], [Life, Id, Bits];
-    b"generate", Command::Key(KeyCommand::Generate), [Name], [Type, Bits, Usage, Alg], [Life, Id];
-    b"copy", Command::Key(KeyCommand::Copy), [Name, Key], [Usage, Alg], [Type, Bits, Life, Id];
-    b"destroy", Command::Key(KeyCommand::Destroy), [Key], [], [];
-    b"purge", Command::Key(KeyCommand::Purge), [Key], [], [];
-    b"attributes", Command::Key(KeyCommand::Attributes), [Key], [], [];
-    b"export", Command::Key(KeyCommand::Export), [Key], [], [Room];
-    b"hash_compute", Command::SinglePart(SinglePartCommand::HashCompute), [], [Alg, Data], [Room];
-    b"hash_compare", Command::SinglePart(SinglePartCommand::HashCompare), [], [Alg, Data, Hash], [];
-    b"mac_compute", Command::SinglePart(SinglePartCommand::MacCompute), [Key], [Alg, Data], [Room];
-    b"mac_verify", Command::SinglePart(SinglePartCommand::MacVerify), [Key], [Alg, Data, Mac], [];
-    b"cipher_encrypt", Command::SinglePart(SinglePartCommand::CipherEncrypt), [Key], [Alg, Data], [Room];
-    b"cipher_decrypt", Command::SinglePart(SinglePartCommand::CipherDecrypt), [Key], [Alg, Data], [Room];
-    b"aead_encrypt", Command::SinglePart(SinglePartCommand::AeadEncrypt), [Key], [Alg, Nonce, Data], [Ad, Room];
-    b"aead_decrypt", Command::SinglePart(SinglePartCommand::AeadDecrypt), [Key], [Alg, Nonce, Data], [Ad, Room];
-    b"hash_setup", Command::Hash(HashCommand::Setup), [Handle], [Alg], [];
-    b"hash_update", Command::Hash(HashCommand::Update), [Handle], [Data], [];
-    b"hash_finish", Command::Hash(HashCommand::Finish), [Handle], [], [Room];
-    b"hash_verify", Command::Hash(HashCommand::Verify), [Handle], [Hash], [];
-    b"mac_sign_setup", Command::Mac(MacCommand::SignSetup), [Handle, Key], [Alg], [];
-    b"mac_verify_setup", Command::Mac(MacCommand::VerifySetup), [Handle, Key], [Alg], [];
-    b"mac_update", Command::Mac(MacCommand::Update), [Handle], [Data], [];
-    b"mac_sign_finish", Command::Mac(MacCommand::SignFinish), [Handle], [], [Room];
-    b"mac_verify_finish", Command::Mac(MacCommand::VerifyFinish), [Handle], [Mac], [];
-    b"cipher_encrypt_setup", Command::Cipher(CipherCommand::EncryptSetup), [Handle, Key], [Alg], [];
-    b"cipher_decrypt_setup", Command::Cipher(CipherCommand::DecryptSetup), [Handle, Key], [Alg], [];
-    b"cipher_generate_iv", Command::Cipher(CipherCommand::GenerateIv), [Handle], [], [Room];
-    b"cipher_set_iv", Command::Cipher(CipherCommand::SetIv), [Handle], [Iv], [];
-    b"cipher_update", Command::Cipher(CipherCommand::Update), [Handle], [Data], [Room];
-    b"cipher_finish", Command::Cipher(CipherCommand::Finish), [Handle], [], [Room];
-    b"aead_encrypt_setup", Command::Aead(AeadCommand::EncryptSetup), [Handle, Key], [Alg], [];
-    b"aead_decrypt_setup", Command::Aead(AeadCommand::DecryptSetup), [Handle, Key], [Alg], [];
-    b"aead_generate_nonce", Command::Aead(AeadCommand::GenerateNonce), [Handle], [], [Room];
-    b"aead_set_nonce", Command::Aead(AeadCommand::SetNonce), [Handle], [Nonce], [];
-    b"aead_set_lengths", Command::Aead(AeadCommand::SetLengths), [Handle], [AdLength, PlainLength], [];
-    b"aead_update_ad", Command::Aead(AeadCommand::UpdateAd), [Handle], [Data], [];
-    b"aead_update", Command::Aead(AeadCommand::Update), [Handle], [Data], [Room];
-    b"aead_finish", Command::Aead(AeadCommand::Finish), [Handle], [], [Room];
-    b"aead_verify", Command::Aead(AeadCommand::Verify), [Handle], [Tag], [];
-    b"kdf_setup", Command::Derivation(DerivationCommand::Setup), [Handle], [Alg], [];
-    b"kdf_get_capacity", Command::Derivation(DerivationCommand::GetCapacity), [Handle], [], [];
-    b"kdf_set_capacity", Command::Derivation(DerivationCommand::SetCapacity), [Handle], [Capacity], [];
-    b"kdf_input_bytes", Command::Derivation(DerivationCommand::InputBytes), [Handle], [Step, Data], [];
-    b"kdf_input_integer", Command::Derivation(DerivationCommand::InputInteger), [Handle], [Step, Value], [];
-    b"kdf_input_key", Command::Derivation(DerivationCommand::InputKey), [Handle, Key], [Step], [];
-    b"kdf_output_bytes", Command::Derivation(DerivationCommand::OutputBytes), [Handle], [Length], [];
-    b"kdf_output_key", Command::Derivation(DerivationCommand::OutputKey), [Handle, Name], [Type, Bits, Usage, Alg], [Life, Id];
-    b"kdf_verify_bytes", Command::Derivation(DerivationCommand::VerifyBytes), [Handle], [Data], [];
-    b"abort", Command::Abort, [Handle], [], [];
+    b"import", ScriptCommand::Key(KeyCommand::Import), [Name], [Type, Usage, Alg, Data], [Life, Id, Bits];
+    b"generate", ScriptCommand::Key(KeyCommand::Generate), [Name], [Type, Bits, Usage, Alg], [Life, Id];
+    b"copy", ScriptCommand::Key(KeyCommand::Copy), [Name, Key], [Usage, Alg], [Type, Bits, Life, Id];
+    b"destroy", ScriptCommand::Key(KeyCommand::Destroy), [Key], [], [];
+    b"purge", ScriptCommand::Key(KeyCommand::Purge), [Key], [], [];
+    b"attributes", ScriptCommand::Key(KeyCommand::Attributes), [Key], [], [];
+    b"export", ScriptCommand::Key(KeyCommand::Export), [Key], [], [Room];
+    b"hash_compute", ScriptCommand::SinglePart(SinglePartCommand::HashCompute), [], [Alg, Data], [Room];
+    b"hash_compare", ScriptCommand::SinglePart(SinglePartCommand::HashCompare), [], [Alg, Data, Hash], [];
+    b"mac_compute", ScriptCommand::SinglePart(SinglePartCommand::MacCompute), [Key], [Alg, Data], [Room];
+    b"mac_verify", ScriptCommand::SinglePart(SinglePartCommand::MacVerify), [Key], [Alg, Data, Mac], [];
+    b"cipher_encrypt", ScriptCommand::SinglePart(SinglePartCommand::CipherEncrypt), [Key], [Alg, Data], [Room];
+    b"cipher_decrypt", ScriptCommand::SinglePart(SinglePartCommand::CipherDecrypt), [Key], [Alg, Data], [Room];
+    b"aead_encrypt", ScriptCommand::SinglePart(SinglePartCommand::AeadEncrypt), [Key], [Alg, Nonce, Data], [Ad, Room];
+    b"aead_decrypt", ScriptCommand::SinglePart(SinglePartCommand::AeadDecrypt), [Key], [Alg, Nonce, Data], [Ad, Room];
+    b"hash_setup", ScriptCommand::Hash(HashCommand::Setup), [Handle], [Alg], [];
+    b"hash_update", ScriptCommand::Hash(HashCommand::Update), [Handle], [Data], [];
+    b"hash_finish", ScriptCommand::Hash(HashCommand::Finish), [Handle], [], [Room];
+    b"hash_verify", ScriptCommand::Hash(HashCommand::Verify), [Handle], [Hash], [];
+    b"mac_sign_setup", ScriptCommand::Mac(MacCommand::SignSetup), [Handle, Key], [Alg], [];
+    b"mac_verify_setup", ScriptCommand::Mac(MacCommand::VerifySetup), [Handle, Key], [Alg], [];
+    b"mac_update", ScriptCommand::Mac(MacCommand::Update), [Handle], [Data], [];
+    b"mac_sign_finish", ScriptCommand::Mac(MacCommand::SignFinish), [Handle], [], [Room];
+    b"mac_verify_finish", ScriptCommand::Mac(MacCommand::VerifyFinish), [Handle], [Mac], [];
+    b"cipher_encrypt_setup", ScriptCommand::Cipher(CipherCommand::EncryptSetup), [Handle, Key], [Alg], [];
+    b"cipher_decrypt_setup", ScriptCommand::Cipher(CipherCommand::DecryptSetup), [Handle, Key], [Alg], [];
+    b"cipher_generate_iv", ScriptCommand::Cipher(CipherCommand::GenerateIv), [Handle], [], [Room];
+    b"cipher_set_iv", ScriptCommand::Cipher(CipherCommand::SetIv), [Handle], [Iv], [];
+    b"cipher_update", ScriptCommand::Cipher(CipherCommand::Update), [Handle], [Data], [Room];
+    b"cipher_finish", ScriptCommand::Cipher(CipherCommand::Finish), [Handle], [], [Room];
+    b"aead_encrypt_setup", ScriptCommand::Aead(AeadCommand::EncryptSetup), [Handle, Key], [Alg], [];
+    b"aead_decrypt_setup", ScriptCommand::Aead(AeadCommand::DecryptSetup), [Handle, Key], [Alg], [];
+    b"aead_generate_nonce", ScriptCommand::Aead(AeadCommand::GenerateNonce), [Handle], [], [Room];
+    b"aead_set_nonce", ScriptCommand::Aead(AeadCommand::SetNonce), [Handle], [Nonce], [];
+    b"aead_set_lengths", ScriptCommand::Aead(AeadCommand::SetLengths), [Handle], [AdLength, PlainLength], [];
+    b"aead_update_ad", ScriptCommand::Aead(AeadCommand::UpdateAd), [Handle], [Data], [];
+    b"aead_update", ScriptCommand::Aead(AeadCommand::Update), [Handle], [Data], [Room];
+    b"aead_finish", ScriptCommand::Aead(AeadCommand::Finish), [Handle], [], [Room];
+    b"aead_verify", ScriptCommand::Aead(AeadCommand::Verify), [Handle], [Tag], [];
+    b"kdf_setup", ScriptCommand::Derivation(DerivationCommand::Setup), [Handle], [Alg], [];
+    b"kdf_get_capacity", ScriptCommand::Derivation(DerivationCommand::GetCapacity), [Handle], [], [];
+    b"kdf_set_capacity", ScriptCommand::Derivation(DerivationCommand::SetCapacity), [Handle], [Capacity], [];
+    b"kdf_input_bytes", ScriptCommand::Derivation(DerivationCommand::InputBytes), [Handle], [Step, Data], [];
+    b"kdf_input_integer", ScriptCommand::Derivation(DerivationCommand::InputInteger), [Handle], [Step, Value], [];
+    b"kdf_input_key", ScriptCommand::Derivation(DerivationCommand::InputKey), [Handle, Key], [Step], [];
+    b"kdf_output_bytes", ScriptCommand::Derivation(DerivationCommand::OutputBytes), [Handle], [Length], [];
+    b"kdf_output_key", ScriptCommand::Derivation(DerivationCommand::OutputKey), [Handle, Name], [Type, Bits, Usage, Alg], [Life, Id];
+    b"kdf_verify_bytes", ScriptCommand::Derivation(DerivationCommand::VerifyBytes), [Handle], [Data], [];
+    b"abort", ScriptCommand::Abort, [Handle], [], [];
 ];
 
 /// All rows.

@@ -10,7 +10,7 @@ use crate::faults::{LineError, Reason};
 use crate::numbers::number_of;
 use crate::pieces::Words;
 use crate::script::{ByteList, KeyWord};
-use crate::sessions::Session;
+use crate::sessions::SessionNames;
 use key_attributes::KeyId;
 use service_calls::Op;
 use std::alloc::Global;
@@ -55,7 +55,7 @@ fn are_name_bytes(word: &[u8]) -> bool
 }
 
 #[tactic(auto, unfolding(crate::specs::Lines::key_at))]
-fn key_of(session: &Session, word: &[u8]) -> Result<KeyWord, LineError>
+fn key_of(session: &SessionNames, word: &[u8]) -> Result<KeyWord, LineError>
     ensures { Gives (λ k. k) result (key_at (places_of session.now) word.now) }
 {
     match word {
@@ -90,7 +90,7 @@ fn handle_of(word: &[u8]) -> Result<Op, LineError>
 #[tactic(auto, unfolding(crate::specs::Lines::with_word))]
 fn take_word(
     alloc: Global,
-    session: &Session,
+    session: &SessionNames,
     kind: Kind,
     fixed: &mut Fixed,
     word: &[u8],
@@ -119,7 +119,7 @@ fn take_word(
 #[tactic(auto, unfolding(crate::specs::Lines::read_fixed))]
 pub(crate) fn take_words(
     alloc: Global,
-    session: &Session,
+    session: &SessionNames,
     kinds: &[Kind],
     fixed: &mut Fixed,
     words: &mut Words,

@@ -17,7 +17,7 @@ mod script;
 mod sessions;
 mod store_commands;
 
-pub use commands::{Command, Kind};
+pub use commands::{Kind, ScriptCommand};
 pub use faults::{Reason, ScriptFault};
 pub use field_list::Fields;
 pub use fields::{Field, FieldValue};

@@ -14,7 +14,7 @@ use crate::fixed::{Fixed, take_words};
 use crate::numbers::number_of;
 use crate::pieces::{Lines, Words};
 use crate::script::{ByteList, Script, ScriptCall, ScriptLine};
-use crate::sessions::Session;
+use crate::sessions::SessionNames;
 use std::alloc::Global;
 
 /// The greatest number of bytes in a script: 4 MiB.
@@ -44,14 +44,14 @@ fn session_of(word: &[u8]) -> Option<u8>
 #[derive(Drop)]
 struct Reading {
     lines: Vec<ScriptLine>,
-    sessions: Vec<Session>,
+    sessions: Vec<SessionNames>,
 }
 
 /// The words after a command: the name that the line gives, and its call.
 #[tactic(auto, unfolding(crate::specs::Lines::parts_at))]
 fn read_parts(
     alloc: Global,
-    session: &Session,
+    session: &SessionNames,
     row: Row,
     words: &mut Words,
 ) -> Result<(Option<ByteList>, ScriptCall), LineError>
@@ -72,14 +72,14 @@ fn read_parts(
     Ok((fixed.name, call))
 }
 
-fn new_sessions(alloc: Global) -> Result<Vec<Session>, LineError>
+fn new_sessions(alloc: Global) -> Result<Vec<SessionNames>, LineError>
     ensures seventeen { IfOk result (λ sessions. length sessions.items ≡ 17) }
     ensures new { IfOk result (λ sessions. All IsNew sessions.items) }
     ensures err { IfErr result (λ e. e ≡ Memory) }
 {
     let mut sessions = Vec::new(alloc);
     while sessions.len() < 17 {
-        sessions.push(Session::new(alloc))?;
+        sessions.push(SessionNames::new(alloc))?;
     }
     Ok(sessions)
 }
@@ -120,7 +120,7 @@ impl Reading {
     }
 
     /// What is known of a session.
-    fn session(&self, session: u8) -> &Session
+    fn session(&self, session: u8) -> &SessionNames
         requires range { (1 ≤ session) × (session ≤ 16) }
         requires counted { AreCounted self.now.lines.items self.now.sessions.items }
         ensures { places_of result.now ≡ (read_of self.now.lines.items self.now.sessions.items).places session }

@@ -1,10 +1,10 @@
 // A script as it was read.
 ghost use Rattle.std.specs.Prelude.{◌≡◌, ◌<◌, IfOk, slice_get, length, Some};
 ghost use Rattle.service_calls.specs.Meanings.{model_request};
-ghost use Rattle.script_lang.specs.Commands.{key_of, request_of};
+ghost use Rattle.script_lang.specs.Commands.{key_id_of, request_of};
 ghost use Rattle.script_lang.specs.Fields.{room_at};
 
-use crate::commands::Command;
+use crate::commands::ScriptCommand;
 use crate::field_list::Fields;
 use key_attributes::KeyId;
 use psa_status::Memory;
@@ -69,7 +69,7 @@ pub enum KeyWord {
 impl KeyWord {
     /// The key's identifier, where `given` has the identifiers that the session's calls before gave.
     fn id(self, given: &[u32]) -> KeyId
-        ensures { result.0 ≡ key_of given.now self }
+        ensures { result.0 ≡ key_id_of given.now self }
     {
         match self {
             KeyWord::Given(id) => id,
@@ -81,7 +81,7 @@ impl KeyWord {
 /// A call of a script: its command, and what its line says beside it.
 #[derive(Drop)]
 pub struct ScriptCall {
-    pub command: Command,
+    pub command: ScriptCommand,
     pub key: KeyWord,
     pub handle: Op,
     pub fields: Fields,
@@ -95,14 +95,20 @@ impl ScriptCall {
         let key = self.key.id(given);
         let fields = &self.fields;
         match self.command {
-            Command::Key(command) => Call::OnStore(command.call(key, fields)),
-            Command::SinglePart(command) => Call::OnStore(command.call(key, fields)),
-            Command::Hash(command) => Call::OnHandle(self.handle, command.call(fields)),
-            Command::Mac(command) => Call::OnHandle(self.handle, command.call(key, fields)),
-            Command::Cipher(command) => Call::OnHandle(self.handle, command.call(key, fields)),
-            Command::Aead(command) => Call::OnHandle(self.handle, command.call(key, fields)),
-            Command::Derivation(command) => Call::OnHandle(self.handle, command.call(key, fields)),
-            Command::Abort => Call::OnHandle(self.handle, HandleCall::Abort),
+            ScriptCommand::Key(command) => Call::OnStore(command.call(key, fields)),
+            ScriptCommand::SinglePart(command) => Call::OnStore(command.call(key, fields)),
+            ScriptCommand::Hash(command) => Call::OnHandle(self.handle, command.call(fields)),
+            ScriptCommand::Mac(command) => Call::OnHandle(self.handle, command.call(key, fields)),
+            ScriptCommand::Cipher(command) => Call::OnHandle(
+                self.handle,
+                command.call(key, fields),
+            ),
+            ScriptCommand::Aead(command) => Call::OnHandle(self.handle, command.call(key, fields)),
+            ScriptCommand::Derivation(command) => Call::OnHandle(
+                self.handle,
+                command.call(key, fields),
+            ),
+            ScriptCommand::Abort => Call::OnHandle(self.handle, HandleCall::Abort),
         }
     }
 }

@@ -11,17 +11,17 @@ use std::collections::HashMap;
 
 /// How many calls of a session were read, and at which place among them each name was given last.
 #[derive(Drop)]
-pub(crate) struct Session {
+pub(crate) struct SessionNames {
     pub calls: u32,
     pub names: HashMap<Vec<u8>, u32>,
 }
 
-impl Session {
-    pub fn new(alloc: Global) -> Session
+impl SessionNames {
+    pub fn new(alloc: Global) -> SessionNames
         ensures calls { result.calls ≡ 0 }
         ensures places { (name : List ℕ) → places_of result name ≡ None }
     {
-        Session {
+        SessionNames {
             calls: 0,
             names: HashMap::new(alloc),
         }

@@ -13,9 +13,9 @@ use Rattle.secure_element_calls.specs.declared.calls.NotComputed.{NotComputed}
 use Rattle.secure_element_calls.specs.declared.calls.NotComputed.TheVariants.{Refused, Failed}
 use Rattle.secure_element_calls.specs.Calls.{element_reply, needed_by, rows_before}
 
-abbrev pub status_of : NotComputed → Status
-status_of (Refused status) = status
-status_of Failed = HardwareFailure
+abbrev pub not_computed_status : NotComputed → Status
+not_computed_status (Refused status) = status
+not_computed_status Failed = HardwareFailure
 
 -- the mark of an answer: of the driver, where it failed
 abbrev pub mark_computed : Result ℕ NotComputed → FaultMark
@@ -26,7 +26,7 @@ mark_computed _ = Plain
 abbrev pub AnswersCall : ElementCall → Result ℕ NotComputed → Reply → Type 0
 AnswersCall (MacVerify alg input mac) (Ok n) reply = (n ≡ 0) × (reply ≡ done)
 AnswersCall call (Ok n) reply = GivesBytes n reply
-AnswersCall call (Err why) reply = (reply.status ≡ status_of why) × (reply.output ≡ Nothing)
+AnswersCall call (Err why) reply = (reply.status ≡ not_computed_status why) × (reply.output ≡ Nothing)
 
 -- what a call may answer that is refused by no row before the element is asked
 abbrev pub IsOfElement : ElementCall → Result ℕ NotComputed → Type 0

@@ -2,7 +2,7 @@
 use Rattle.std.specs.Prelude.{ℕ, ◌≡◌, true, List, ◌++◌, Option, None}
 use Rattle.std.specs.FinMap as map
 use Rattle.psa_status.specs.Rows.{Rows, first_row}
-use Rattle.store_model.specs.Prelude.{Key, is_opaque_key, Reply, reply_unless, bytes_of, use_rows, Service, next_random, OnStore, plain_step, asks_device}
+use Rattle.store_model.specs.Prelude.{Key, is_opaque_key, Reply, reply_unless, bytes_of_key, use_rows, Service, next_random, OnStore, plain_step, asks_device}
 use Rattle.secure_element_calls.specs.declared.calls.ElementCall.{ElementCall}
 use Rattle.secure_element_calls.specs.declared.calls.ElementCall.TheVariants.{CtrEncrypt}
 use Rattle.secure_element_calls.specs.Calls.{algorithm_asked, class_asked, element_reply, model_call, rows_before, usage_asked}
@@ -16,7 +16,7 @@ abbrev pub all_rows : ElementCall → (room : ℕ) → Option Key → Rows
 all_rows call room found = key_rows call found ++ rows_before call room
 
 abbrev pub reply_on : ElementCall → (room : ℕ) → Option Key → Reply
-reply_on call room found = reply_unless (first_row (key_rows call found)) (element_reply call (bytes_of found) room)
+reply_on call room found = reply_unless (first_row (key_rows call found)) (element_reply call (bytes_of_key found) room)
 
 -- an initialisation vector is the caller's next random bytes
 abbrev pub HasDrawn : ElementCall → (random : List ℕ) → Type 0

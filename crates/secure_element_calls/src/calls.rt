@@ -1,6 +1,6 @@
 // Calls that the secure element computes.
 ghost use Rattle.std.specs.Prelude.{◌≡◌};
-ghost use Rattle.secure_element_calls.specs.Answers.{status_of};
+ghost use Rattle.secure_element_calls.specs.Answers.{not_computed_status};
 ghost use Rattle.secure_element_calls.specs.Calls.{algorithm_asked, class_asked, usage_asked};
 
 use alg_encoding::Class;
@@ -77,7 +77,7 @@ pub enum NotComputed {
 impl NotComputed {
     /// What a call answers.
     pub fn status(self) -> Status
-        ensures { result ≡ status_of self }
+        ensures { result ≡ not_computed_status self }
     {
         match self {
             NotComputed::Refused(status) => status,

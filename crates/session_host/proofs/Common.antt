@@ -21,7 +21,7 @@ pub use Rattle.session_host.specs.Printed.{AreFirstCalls, AreFirstReplies, AreRe
 pub use Rattle.session_host.specs.Replying.{Answer, Answers, Fills, Notes, Tells}
 pub use Rattle.session_host.specs.Running.{AreCallers, HaveAnswered, HaveKept, HaveMade, HaveSeen, all_replies}
 pub use Rattle.session_host.specs.Runs.{IsBroken, IsOpening, IsRun}
-pub use Rattle.session_host.specs.Sessions.{AreFirstGiven, ElementTells, GoesFurther, HasAnswered, HasMade, HasReplies, IsMade, IsWithin, KnowsTurns, session_turns}
+pub use Rattle.session_host.specs.Sessions.{AreFirstGiven, ElementTells, GoesFurther, HasAnswered, HasMade, HasReplies, IsMade, AreCalledIn, KnowsTurns, session_turns}
 pub use Rattle.session_host.specs.Workers.{AreApart, ChangesAt, HasLearned, HasSeated, HasSeen, HasWorked, HaveForm, HaveRun, IsOurs, numbers_of}
 pub use Rattle.session_host.specs.declared.session.Session.{Session}
 pub use Rattle.session_host.specs.declared.worker.Worker.{Worker}

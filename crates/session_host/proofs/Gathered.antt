@@ -1,6 +1,6 @@
 -- From what threads have worked to what sixteen callers have made.
 use Rattle.std.proofs.Common.{All, List, None, Option, Some, [], ap, ap₂, arith, cond, flat_map, get_or, inl, inr, length, length-append, refl, subst, suc, sym, take, true, zero, ℕ, ◌++◌, ◌+◌, ◌-◌, ◌<◌, ◌∙◌, ◌∷◌, ◌≡◌, ◌≤◌}
-use Rattle.session_host.proofs.Common.{AreAllKept, AreCallers, AreDealt, AreKept, AreStaff, AreTaken, Caller, HasMade, HasReplies, HasSeen, HasWorked, HaveKept, HaveMade, HaveOwn, HaveRun, HaveSeen, IsFrom, IsOfSession, IsOurs, IsWithin, Replies, ReplyForm, ReplyLine, ScriptLine, Session, Worker, World, all_replies, dealt, entries_of, get_or_default, is_success, sum_by-append, sum_by-cons, text_in}
+use Rattle.session_host.proofs.Common.{AreAllKept, AreCallers, AreDealt, AreKept, AreStaff, AreTaken, Caller, HasMade, HasReplies, HasSeen, HasWorked, HaveKept, HaveMade, HaveOwn, HaveRun, HaveSeen, IsFrom, IsOfSession, IsOurs, AreCalledIn, Replies, ReplyForm, ReplyLine, ScriptLine, Session, Worker, World, all_replies, dealt, entries_of, get_or_default, is_success, sum_by-append, sum_by-cons, text_in}
 use Rattle.std.proofs.lemmas.Grind.{flat_map-append}
 use Rattle.session_host.proofs.Dealt.{none_made}
 
@@ -179,7 +179,7 @@ module _ {D A C : Type 0} (w : World D A C) (lines : List ScriptLine) (old new :
             let place : h.0 ≡ last = run.apart h.0 last s h.1 there.0 (ap (λ (y : Caller D A C). y.number) (h.2 s) ∙ number) in
             let same : x.caller ≡ get_or callers k c = subst (λ p. (get_or only.sessions.items p s).caller ≡ get_or callers k c) place (h.2 s) in
             let there_too : k < length callers = (let n = taken.callers_are in omega (arith, within)) in
-            inr (k, there_too, λ d. subst (λ (y : Caller D A C). IsWithin lines (entries_of y.pass.me.0.seen)) (same ∙ get_or_default callers k c d there_too) (there.1 s))
+            inr (k, there_too, λ d. subst (λ (y : Caller D A C). AreCalledIn lines (entries_of y.pass.me.0.seen)) (same ∙ get_or_default callers k c d there_too) (there.1 s))
 
         pub have_seen : HaveSeen lines callers
         have_seen = seen_by only.last (run.order ours)

@@ -1,27 +1,27 @@
 -- Calls in the order of their lines.
 use Rattle.std.proofs.Common.{Bool, List, [], ap, arith, cond, eq-eqb, eqb, false, inl, inr, length, refl, subst, sym, true, ℕ, ◌++◌, ◌+◌, ◌∷◌, ◌≡◌, ◌≤◌}
-use Rattle.session_host.proofs.Common.{Entry, IsInLineOrder, IsWithin, ScriptLine, StartsWith, caller_of, calls_by, choose, lines_of}
+use Rattle.session_host.proofs.Common.{Entry, IsInLineOrder, AreCalledIn, ScriptLine, StartsWith, caller_of, calls_by, choose, lines_of}
 use Rattle.std.proofs.lemmas.List.{append-nil}
 
 -- what is within a list is within a longer one
 
-pub within_later : (lines : List ScriptLine) (more es : List Entry) → IsWithin lines es → IsWithin lines (more ++ es)
+pub within_later : (lines : List ScriptLine) (more es : List Entry) → AreCalledIn lines es → AreCalledIn lines (more ++ es)
 within_later [] more es h = tt
 within_later (line ∷ lines) [] es h = h
 within_later (line ∷ lines) (e ∷ more) es h = inr (within_later (line ∷ lines) more es h)
 
-pub within_append : (lines further : List ScriptLine) (xs ys : List Entry) → IsWithin lines xs → IsWithin further ys → IsWithin (lines ++ further) (xs ++ ys)
+pub within_append : (lines further : List ScriptLine) (xs ys : List Entry) → AreCalledIn lines xs → AreCalledIn further ys → AreCalledIn (lines ++ further) (xs ++ ys)
 within_append [] further xs ys h k = within_later further xs ys k
 within_append (line ∷ lines) further [] ys h k = absurd h
 within_append (line ∷ lines) further (x ∷ xs) ys (inl here) k = inl (here.0, within_append lines further xs ys here.1 k)
 within_append (line ∷ lines) further (x ∷ xs) ys (inr later) k = inr (within_append (line ∷ lines) further xs ys later k)
 
-pub within_whole : (lines : List ScriptLine) (whole part : List Entry) → StartsWith whole part → IsWithin lines part → IsWithin lines whole
-within_whole lines whole part s h = subst (IsWithin lines) (sym s.1) (subst (λ ls. IsWithin ls (part ++ s.0)) (append-nil lines) (within_append lines [] part s.0 h tt))
+pub within_whole : (lines : List ScriptLine) (whole part : List Entry) → StartsWith whole part → AreCalledIn lines part → AreCalledIn lines whole
+within_whole lines whole part s h = subst (AreCalledIn lines) (sym s.1) (subst (λ ls. AreCalledIn ls (part ++ s.0)) (append-nil lines) (within_append lines [] part s.0 h tt))
 
 -- one more call after those
 pub within_more : (lines : List ScriptLine) (line : ScriptLine) (old before new : List Entry) (e : Entry) → StartsWith before old → StartsWith new (before ++ e ∷ []) → e.caller ≡ line.session →
-    IsWithin lines old → IsWithin (lines ++ line ∷ []) new
+    AreCalledIn lines old → AreCalledIn (lines ++ line ∷ []) new
 within_more lines line old before new e since seen by h =
     within_whole (lines ++ line ∷ []) new (before ++ e ∷ []) seen
     (within_append lines (line ∷ []) before (e ∷ []) (within_whole lines before old since h) (inl (by, tt)))
@@ -46,7 +46,7 @@ by_more n e es = length_choose (eqb e.caller n) e (calls_by caller_of n es)
 of_more : (n : ℕ) (line : ScriptLine) (lines : List ScriptLine) → length (lines_of n (line ∷ lines)) ≡ one (eqb line.session n) + length (lines_of n lines)
 of_more n line lines = length_cond (eqb line.session n) line (lines_of n lines)
 
-within_counts : (n : ℕ) (lines : List ScriptLine) (es : List Entry) → IsWithin lines es → length (lines_of n lines) ≤ length (calls_by caller_of n es)
+within_counts : (n : ℕ) (lines : List ScriptLine) (es : List Entry) → AreCalledIn lines es → length (lines_of n lines) ≤ length (calls_by caller_of n es)
 within_counts n [] es h = omega arith
 within_counts n (line ∷ lines) [] h = absurd h
 within_counts n (line ∷ lines) (e ∷ es) (inl here) =
@@ -56,7 +56,7 @@ within_counts n (line ∷ lines) (e ∷ es) (inl here) =
 within_counts n (line ∷ lines) (e ∷ es) (inr later) =
     let rest = within_counts n (line ∷ lines) es later in let a = by_more n e es in omega (arith, rest, a)
 
-pub in_line_order : (lines : List ScriptLine) (es : List Entry) → IsWithin lines es → ((n : ℕ) → length (lines_of n lines) ≡ length (calls_by caller_of n es)) → IsInLineOrder lines es
+pub in_line_order : (lines : List ScriptLine) (es : List Entry) → AreCalledIn lines es → ((n : ℕ) → length (lines_of n lines) ≡ length (calls_by caller_of n es)) → IsInLineOrder lines es
 in_line_order [] [] h counts = refl
 in_line_order [] (e ∷ es) h counts =
     let own : one (eqb e.caller e.caller) ≡ one true = ap one (eq-eqb e.caller e.caller refl) in

@@ -6,7 +6,7 @@ use Rattle.policy_rules.specs.declared.narrowing.Label.{Label}
 use Rattle.caller_service.specs.Closing.{IsClosedOver}
 use Rattle.session_host.proofs.Bounds.{bounded}
 use Rattle.session_host.proofs.FaultLines.{bounded_lines}
-use Rattle.session_host.specs.Runs.{IsAnswered}
+use Rattle.session_host.specs.Runs.{AreAnswered}
 use Rattle.session_host.proofs.Gathered.{some_of}
 use Rattle.session_host.proofs.Whole.{all_calls, failures_are, first_calls, heads_are, line_order, replies_are, replies_so_far, whole_calls}
 use Rattle.disk_face.specs.declared.Disk as Disk
@@ -53,7 +53,7 @@ module _ {D A C : Type 0} (disks : Disk.Ghosts D) (elements : Devices.Ghosts A) 
   }
 
   pub answered : (replies : List (List ReplyLine)) (workers : ℕ) → HaveAnswered w lines callers replies → (workers ≡ 1 → HaveSeen lines callers) →
-      IsAnswered disks elements admits disk devices named seed workers lines (all_replies replies) disk_after devices_after
+      AreAnswered disks elements admits disk devices named seed workers lines (all_replies replies) disk_after devices_after
   unfolding a_run
   answered replies workers h one = record {
     run = a_run;

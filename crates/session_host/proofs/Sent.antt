@@ -35,7 +35,7 @@ use Rattle.admission.specs.declared.rules.Admission as admission
 use Rattle.secret_bytes.specs.contracts.Secret as Secret
 use Rattle.locked_store.specs.contracts.held.Held as Held
 use Rattle.locked_store.specs.contracts.held.SharedStore as Shared
-use Rattle.operation_handles.specs.contracts.cell.Cell as Cell
+use Rattle.operation_handles.specs.contracts.handle.OperationHandle as OperationHandle
 use Rattle.callers.specs.contracts.caller.Caller as Caller
 use Rattle.caller_service.specs.contracts.service.Service as Service
 use Rattle.script_lang.specs.contracts.replies.Replies as Replies
@@ -45,8 +45,8 @@ use Rattle.session_host.specs.contracts.worker.Worker as Worker
 secret_send : IsSend Secret.the_row
 secret_send = search (sendable, crosses) depth 40
 
-cell_send : IsSend Cell.the_row
-cell_send = search (sendable, crosses) depth 60 fits 100000
+handle_send : IsSend OperationHandle.the_row
+handle_send = search (sendable, crosses) depth 60 fits 100000
 
 replies_send : IsSend Replies.the_row
 replies_send = search (sendable, crosses) depth 40 fits 10000
@@ -83,7 +83,7 @@ module _ (D A C : RattleType) (d : IsSend D) (a : IsSend A) (c : IsSend C) where
   caller_send =
       let pass = seat.the_send (Option.the_row (boxed (Held.the_row D A C))) _ (maybe_send (boxed (Held.the_row D A C)) (heap.Box-send (Held.the_row D A C) held_send)) in
       declared_send (Caller.the_type D A C)
-      (search sendable, (search sendable, (pass, (search (sendable, crosses) depth 40 fits 10000, (search (sendable, crosses, secret_send), (search (sendable, crosses, cell_send) depth 20, tt))))))
+      (search sendable, (search sendable, (pass, (search (sendable, crosses) depth 40 fits 10000, (search (sendable, crosses, secret_send), (search (sendable, crosses, handle_send) depth 20, tt))))))
 
   session_send : IsSend (Session.the_row D A C)
   session_send = declared_send (Session.the_type D A C) (caller_send, (search (sendable, crosses, replies_send) depth 20, (search (sendable, crosses) depth 20, tt)))

@@ -1,6 +1,6 @@
 -- From what callers know, and from what a closed service says, to the one order of a script's calls.
 use Rattle.std.proofs.Common.{All, List, [], ap, append_assoc, arith, cond, eqb, false, flat_map, get_or, inl, inr, length, map, ne_eqb, refl, subst, suc, sym, take, take_all, ℕ, ◌++◌, ◌+◌, ◌-◌, ◌<◌, ◌∙◌, ◌∷◌, ◌≡◌, ◌≤◌, ◌⊎◌}
-use Rattle.session_host.proofs.Common.{All-head, All-nil, All-tail, AreCalls, AreFirstCalls, AreFirstReplies, AreReplies, AreRepliesSoFar, Caller, ElementTells, Entry, HasMade, HaveAnswered, HaveSeen, IsInLineOrder, IsOfSession, IsToldTo, IsWithin, KnowsTurns, ReplyLine, ScriptLine, Service, Starts, StartsWith, Turn, World, all_replies, begins_itself, caller_of, calls_by, choose, entries_of, eqb_tells, failure_marked, failure_of, failures_of, failures_to, head_of, heads, heads_to, leb_tells, lines_of, map-append, numbered, ranks_of, replies_of, replies_to, session_turns, turns_from, turns_of}
+use Rattle.session_host.proofs.Common.{All-head, All-nil, All-tail, AreCalls, AreFirstCalls, AreFirstReplies, AreReplies, AreRepliesSoFar, Caller, ElementTells, Entry, HasMade, HaveAnswered, HaveSeen, IsInLineOrder, IsOfSession, IsToldTo, AreCalledIn, KnowsTurns, ReplyLine, ScriptLine, Service, Starts, StartsWith, Turn, World, all_replies, begins_itself, caller_of, calls_by, choose, entries_of, eqb_tells, failure_marked, failure_of, failures_of, failures_to, head_of, heads, heads_to, leb_tells, lines_of, map-append, numbered, ranks_of, replies_of, replies_to, session_turns, turns_from, turns_of}
 use Rattle.std.proofs.lemmas.List.{append-nil}
 use Rattle.session_host.proofs.Fronts.{first_whole}
 use Rattle.session_host.proofs.History.{as_many_turns, chosen_length}
@@ -235,6 +235,6 @@ module _ {D A C : Type 0} (w : World D A C) (lines : List ScriptLine) (callers :
 
   -- one worker makes the calls in the order of the lines
   pub line_order : (d : Caller D A C) → ((k : ℕ) (d : Caller D A C) → k < 16 → HasMade w lines (get_or callers k d)) → HaveSeen lines callers → IsInLineOrder lines history
-  line_order d made (inl none) = in_line_order lines history (subst (λ ls. IsWithin ls history) (sym none) tt) (counts_agree made d)
+  line_order d made (inl none) = in_line_order lines history (subst (λ ls. AreCalledIn ls history) (sym none) tt) (counts_agree made d)
   line_order d made (inr there) =
       in_line_order lines history (within_whole lines history (entries_of (get_or callers there.0 d).pass.me.0.seen) (seen there.0 d there.1) (there.2 d)) (counts_agree made d)

@@ -1,6 +1,6 @@
 -- The sessions of a thread, as a line is run.
 use Rattle.std.proofs.Common.{All, Err, IfOk, IfSome, List, MatchResult, None, Ok, Option, Result, Some, [], ap, ap₂, arith, false, get_or, get_or-set_other, get_or-set_same, inl, inr, length, length-append, length-set, map, refl, set, subst, suc, sym, take, ℕ, ◌++◌, ◌+◌, ◌-◌, ◌<◌, ◌==◌, ◌^◌, ◌∙◌, ◌∷◌, ◌≡◌, ◌≢◌, ◌≤◌, ◌⊎◌}
-use Rattle.session_host.proofs.Common.{AreApart, AreKept, ChangesAt, GoesFurther, HasAnswered, HasLearned, HasMade, HasSeen, HasWorked, HaveForm, HaveRun, IsOurs, IsWithin, Memory, ReplyForm, ReplyLine, ScriptLine, Session, StartsWith, Worker, World, entries_of, eqb_tells, get_or_append_left, get_or_default, get_or_push, numbers_of, take_more}
+use Rattle.session_host.proofs.Common.{AreApart, AreKept, ChangesAt, GoesFurther, HasAnswered, HasLearned, HasMade, HasSeen, HasWorked, HaveForm, HaveRun, IsOurs, AreCalledIn, Memory, ReplyForm, ReplyLine, ScriptLine, Session, StartsWith, Worker, World, entries_of, eqb_tells, get_or_append_left, get_or_default, get_or_push, numbers_of, take_more}
 use Rattle.std.proofs.lemmas.Bool.{both_ways}
 use Rattle.std.proofs.lemmas.List.Sums.{count_by-le-length, length-filter}
 use Rattle.session_host.proofs.Order.{within_more, within_whole}
@@ -87,10 +87,10 @@ module _ {D A C : Type 0} (w : World D A C) (lines : List ScriptLine) where
       ours_before x o = (o.0, (let a = o.1 in let e = long in omega arith), λ d. sym (same_number o.0 d) ∙ o.2 d)
 
       seen_before : (o : Option ℕ) → HasSeen lines old o → IfSome o (λ last. (d : Session D A C) → StartsWith (entries_of (get_or met place d).caller.pass.me.0.seen) (entries_of (get_or old last d).caller.pass.me.0.seen)) →
-          IsWithin lines (entries_of before.caller.pass.me.0.seen)
-      seen_before None e starts = subst (λ ls. IsWithin ls (entries_of before.caller.pass.me.0.seen)) (sym e) tt
+          AreCalledIn lines (entries_of before.caller.pass.me.0.seen)
+      seen_before None e starts = subst (λ ls. AreCalledIn ls (entries_of before.caller.pass.me.0.seen)) (sym e) tt
       seen_before (Some last) seen starts =
-          subst (λ s. IsWithin lines (entries_of s.caller.pass.me.0.seen)) (sym here)
+          subst (λ s. AreCalledIn lines (entries_of s.caller.pass.me.0.seen)) (sym here)
           (within_whole lines (entries_of (get_or met place before).caller.pass.me.0.seen) (entries_of (get_or old last before).caller.pass.me.0.seen) (starts before) (seen.1 before))
 
       module _ (starts : IfSome t.last (λ last. (d : Session D A C) → StartsWith (entries_of (get_or met place d).caller.pass.me.0.seen) (entries_of (get_or old last d).caller.pass.me.0.seen)))
@@ -104,7 +104,7 @@ module _ {D A C : Type 0} (w : World D A C) (lines : List ScriptLine) where
           order = λ all. subst (λ o. HasSeen (lines ++ line ∷ []) u.sessions.items o) (sym last)
               (subst (λ x. HasSeen (lines ++ line ∷ []) x (Some place)) (sym items) (
                 (let b = long in omega arith),
-                λ d. subst (λ s. IsWithin (lines ++ line ∷ []) (entries_of s.caller.pass.me.0.seen)) (sym (get_or-set_same met place after d within))
+                λ d. subst (λ s. AreCalledIn (lines ++ line ∷ []) (entries_of s.caller.pass.me.0.seen)) (sym (get_or-set_same met place after d within))
                     (within_more lines line (entries_of before.caller.pass.me.0.seen) further.before (entries_of after.caller.pass.me.0.seen) further.entry further.since further.seen further.by
                     (seen_before t.last (h.order (λ k d lt. let a = length-append lines (line ∷ []) in ours_before (get_or lines k d)
                     (subst (IsOurs now) (get_or_append_left lines (line ∷ []) d k lt) (subst (λ x. IsOurs x (get_or (lines ++ line ∷ []) k d)) items (all k d (omega (arith, a))))))) starts)),

@@ -7,7 +7,7 @@ use Rattle.script_lang.specs.declared.script.ScriptLine.{ScriptLine}
 use Rattle.script_lang.specs.Prelude.{AreAllKept, ReplyLine}
 use Rattle.script_lang.specs.declared.replies.Replies.{Replies}
 use Rattle.script_lang.specs.declared.replies.ReplyForm.{ReplyForm}
-use Rattle.session_host.specs.Sessions.{HasMade, HasReplies, IsWithin}
+use Rattle.session_host.specs.Sessions.{HasMade, HasReplies, AreCalledIn}
 
 -- the replies of all sessions, in their order
 abbrev pub all_replies : List (List ReplyLine) → List ReplyLine
@@ -22,7 +22,7 @@ module _ {D A C : Type 0} where
   -- some caller has seen the calls of these lines in their order
   abbrev pub HaveSeen : List ScriptLine → List (Caller D A C) → Type 0
   HaveSeen lines callers =
-      (lines ≡ []) ⊎ ((k : ℕ) × (k < length callers) × ((d : Caller D A C) → IsWithin lines (entries_of (get_or callers k d).pass.me.0.seen)))
+      (lines ≡ []) ⊎ ((k : ℕ) × (k < length callers) × ((d : Caller D A C) → AreCalledIn lines (entries_of (get_or callers k d).pass.me.0.seen)))
 
   module _ (w : World D A C) (lines : List ScriptLine) (callers : List (Caller D A C)) where
     -- each caller has made the calls of the first so many lines that are its session's, and no other

@@ -61,7 +61,7 @@ module _ {D A C : Type 0} (disks : Disk.Ghosts D) (elements : Devices.Ghosts A) 
   -- are those of the one-thread service to them. So it is also of each beginning of the order, as far as that goes. Whatever is
   -- told, no more of the replies say that the disk or the devices failed than their counts rose by. One worker makes the calls in
   -- the order of the lines.
-  pub record IsAnswered (disk : D) (devices : A) (named : List Label) (seed : List ℕ) (workers : ℕ) (lines : List ScriptLine) (replies : List ReplyLine) (disk_after : D) (devices_after : A) : Type 0 where
+  pub record AreAnswered (disk : D) (devices : A) (named : List Label) (seed : List ℕ) (workers : ℕ) (lines : List ScriptLine) (replies : List ReplyLine) (disk_after : D) (devices_after : A) : Type 0 where
     pub run : IsRun disk devices named seed disk_after devices_after
     pub counts : (session : ℕ) → length (ranks_of session 0 run.history) ≡ length (lines_of session lines)
     pub heads : map head_of replies ≡ heads_to 16 run.history
@@ -73,7 +73,7 @@ module _ {D A C : Type 0} (disks : Disk.Ghosts D) (elements : Devices.Ghosts A) 
   -- The replies to these lines are kept in this form, those of each session by themselves.
   pub record AreAnswers (disk : D) (devices : A) (named : List Label) (seed : List ℕ) (workers : ℕ) (lines : List ScriptLine) (form : ReplyForm) (kept : List Replies) (disk_after : D) (devices_after : A) : Type 0 where
     pub replies : List ReplyLine
-    pub answered : IsAnswered disk devices named seed workers lines replies disk_after devices_after
+    pub answered : AreAnswered disk devices named seed workers lines replies disk_after devices_after
     pub all : AreAllKept form kept replies
     pub sixteen : length kept ≡ 16
 

@@ -26,10 +26,10 @@ abbrev pub AreFirstGiven : List ℕ → List Turn → Type 0
 AreFirstGiven given turns = take (length turns) given ≡ map (λ t. id_given t.reply.output) turns
 
 -- the calls of these lines are among a history's, in this order
-abbrev pub IsWithin : List ScriptLine → List Entry → Type 0
-IsWithin [] es = Unit {0}
-IsWithin (line ∷ lines) [] = ⊥
-IsWithin (line ∷ lines) (e ∷ es) = ((e.caller ≡ line.session) × IsWithin lines es) ⊎ IsWithin (line ∷ lines) es
+abbrev pub AreCalledIn : List ScriptLine → List Entry → Type 0
+AreCalledIn [] es = Unit {0}
+AreCalledIn (line ∷ lines) [] = ⊥
+AreCalledIn (line ∷ lines) (e ∷ es) = ((e.caller ≡ line.session) × AreCalledIn lines es) ⊎ AreCalledIn (line ∷ lines) es
 
 -- a caller has made one more call, of its own number, and has seen more before it
 pub record GoesFurther {D A C : Type 0} (session : ℕ) (old new : Caller D A C) : Type 0 where

@@ -7,7 +7,7 @@ use Rattle.script_lang.specs.declared.replies.ReplyForm.{ReplyForm}
 use Rattle.script_lang.specs.declared.script.ScriptLine.{ScriptLine}
 use Rattle.session_host.specs.declared.session.Session.{Session}
 use Rattle.session_host.specs.declared.worker.Worker.{Worker}
-use Rattle.session_host.specs.Sessions.{HasAnswered, HasMade, IsWithin}
+use Rattle.session_host.specs.Sessions.{HasAnswered, HasMade, AreCalledIn}
 
 -- one element of a list has changed so, and no other
 pub record ChangesAt {X : Type 0} (place : ℕ) (R : X → X → Type 0) (old new : List X) : Type 0 where
@@ -30,7 +30,7 @@ module _ {D A C : Type 0} where
   -- a session's caller has seen the calls of these lines in their order
   abbrev pub HasSeen : List ScriptLine → List (Session D A C) → Option ℕ → Type 0
   HasSeen lines sessions None = lines ≡ []
-  HasSeen lines sessions (Some last) = (last < length sessions) × ((d : Session D A C) → IsWithin lines (entries_of (get_or sessions last d).caller.pass.me.0.seen))
+  HasSeen lines sessions (Some last) = (last < length sessions) × ((d : Session D A C) → AreCalledIn lines (entries_of (get_or sessions last d).caller.pass.me.0.seen))
 
   -- no two sessions have one number
   abbrev pub AreApart : List (Session D A C) → Type 0

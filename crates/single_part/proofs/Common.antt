@@ -17,4 +17,4 @@ pub use Rattle.single_part.specs.Laws.{DrawsAVector, DrawsOnSuccess, HashCallsAr
 pub use Rattle.std.proofs.Math.Seq.{take-append-add, take-append_seam}
 pub use Rattle.std.proofs.lemmas.Result.{err_from_is_err_and}
 pub use Rattle.std.specs.Result.{result_err}
-pub use Rattle.store_model.specs.Prelude.{CbcNoPadding, CbcPkcs7, Computed, Ctr, EcbNoPadding, Key, Mode, Random, Reply, Store, buffer_after, buffer_bytes, bytes_of, cipher_usage, class_rows, computed_unless, deciphered, decrypt_rows, decrypted_reply, enciphered, enciphered_length, encrypt_rows, encrypted, export_reply, given, is_ctr, is_opaque, is_opaque_key, iv_length, mac_usage, mode_of, plain_or_zeros, refusal, replies, reply_unless, room_rows, use_rows, with_computed}
+pub use Rattle.store_model.specs.Prelude.{CbcNoPadding, CbcPkcs7, Computed, Ctr, EcbNoPadding, Key, Mode, Random, Reply, Store, buffer_after, buffer_bytes, bytes_of_key, cipher_usage, class_rows, computed_unless, deciphered, decrypt_rows, decrypted_reply, enciphered, enciphered_length, encrypt_rows, encrypted, export_reply, given, is_ctr, is_opaque, is_opaque_key, iv_length, mac_usage, mode_of, plain_or_zeros, refusal, replies, reply_unless, room_rows, use_rows, with_computed}

@@ -1,6 +1,6 @@
 -- What calls with a key draw.
 use Rattle.std.proofs.Common.{Bool, List, None, Option, Some, arith, length, refl, true, ℕ, ◌++◌, ◌+◌, ◌≡◌, ◌≤◌}
-use Rattle.single_part.proofs.Common.{Cipher, CipherEncrypt, Class, Computed, Ctr, DrawsAVector, DrawsOnSuccess, Export, Key, Mode, RandomStream, Reply, Status, Success, bytes_of, cipher_usage, computed_unless, drawn_from, enciphered, encrypt_rows, first_row, given, is_ctr, iv_length, mode_of, replies, use_rows, words_used}
+use Rattle.single_part.proofs.Common.{Cipher, CipherEncrypt, Class, Computed, Ctr, DrawsAVector, DrawsOnSuccess, Export, Key, Mode, RandomStream, Reply, Status, Success, bytes_of_key, cipher_usage, computed_unless, drawn_from, enciphered, encrypt_rows, first_row, given, is_ctr, iv_length, mode_of, replies, use_rows, words_used}
 use Rattle.std.specs.FinMap as map
 use Rattle.store_model.proofs.Tables.{refused_by}
 
@@ -55,7 +55,7 @@ exact store caller random (CipherEncrypt alg input) id room =
     let found : Option Key = map.get store.keys id in
     let vector : List ℕ = random (iv_length mode) in
     draws_unless (first_row (use_rows (is_ctr mode) Cipher (cipher_usage true) alg.0 found)) (first_row (encrypt_rows mode (length input.now) room))
-    (vector ++ enciphered mode (bytes_of found) vector input.now) (iv_length mode)
+    (vector ++ enciphered mode (bytes_of_key found) vector input.now) (iv_length mode)
     (use_refuses (is_ctr mode) Cipher (cipher_usage true) alg.0 found) (encrypt_refuses mode (length input.now) room)
 exact store caller random Export id room = (λ is. refl, λ is. refl)
 exact store caller random _ id room = draws_nothing _ _

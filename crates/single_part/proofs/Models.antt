@@ -1,15 +1,15 @@
 -- Calls in one part are the model's.
 use Rattle.std.proofs.Common.{Option, ap, false, refl, true, ℕ, ◌≡◌}
-use Rattle.single_part.proofs.Common.{AeadDecrypt, AeadEncrypt, CipherDecrypt, CipherEncrypt, Compare, Compute, Export, HashCallsAreTheModels, KeyedCall, KeyedCallsAreTheModels, Mac, MacCompute, MacVerify, Random, Status, Store, bytes_of, cipher_usage, computed_by, computed_unless, mac_usage, with_computed}
+use Rattle.single_part.proofs.Common.{AeadDecrypt, AeadEncrypt, CipherDecrypt, CipherEncrypt, Compare, Compute, Export, HashCallsAreTheModels, KeyedCall, KeyedCallsAreTheModels, Mac, MacCompute, MacVerify, Random, Status, Store, bytes_of_key, cipher_usage, computed_by, computed_unless, mac_usage, with_computed}
 use Rattle.std.specs.FinMap as map
 use Rattle.single_part.proofs.Uses.{cipher_use, export_is, local_use}
 
 -- where the refusals are those of the use
 by_refusal : (store : Store) (random : Random) (call : KeyedCall) (id room : ℕ) (o p : Option Status) → o ≡ p →
-    with_computed store (computed_unless o (computed_by call (bytes_of (map.get store.keys id)) random room))
-    ≡ with_computed store (computed_unless p (computed_by call (bytes_of (map.get store.keys id)) random room))
+    with_computed store (computed_unless o (computed_by call (bytes_of_key (map.get store.keys id)) random room))
+    ≡ with_computed store (computed_unless p (computed_by call (bytes_of_key (map.get store.keys id)) random room))
 by_refusal store random call id room o p same =
-    ap (λ o. with_computed store (computed_unless o (computed_by call (bytes_of (map.get store.keys id)) random room))) same
+    ap (λ o. with_computed store (computed_unless o (computed_by call (bytes_of_key (map.get store.keys id)) random room))) same
 
 pub keyed : KeyedCallsAreTheModels
 keyed store caller random Export id room local = ap (with_computed store) (export_is (map.get store.keys id) room)

@@ -1,6 +1,6 @@
 -- The refusals of a key's use, on a key that the secure element doesn't hold or doesn't compute with.
 use Rattle.std.proofs.Common.{Bool, None, Option, Some, bit_and, cond, false, if◌then◌else◌, length, refl, true, ℕ, ◌==◌, ◌≡◌}
-use Rattle.single_part.proofs.Common.{CbcNoPadding, CbcPkcs7, Cipher, Class, Ctr, EcbNoPadding, Key, NotPermitted, NotSupported, Reply, Status, bytes_of, computed_unless, export_reply, exported_reply, first_row, given, is_ctr, is_opaque, is_opaque_key, mode_of, replies, reply_unless, room_rows, use_rows}
+use Rattle.single_part.proofs.Common.{CbcNoPadding, CbcPkcs7, Cipher, Class, Ctr, EcbNoPadding, Key, NotPermitted, NotSupported, Reply, Status, bytes_of_key, computed_unless, export_reply, exported_reply, first_row, given, is_ctr, is_opaque, is_opaque_key, mode_of, replies, reply_unless, room_rows, use_rows}
 use Rattle.key_policy.specs.Permissions.{export_refusal}
 use Rattle.key_policy.proofs.Devices.{local_alike}
 use Rattle.secure_element_calls.specs.Calls.{ctr}
@@ -32,6 +32,6 @@ by_rows false true last reply = refl
 by_rows false false last reply = refl
 
 -- EXPORT: the row of the room comes last
-pub export_is : (found : Option Key) (room : ℕ) → replies (export_reply found room) ≡ computed_unless (export_refusal found) (replies (exported_reply (bytes_of found) room))
+pub export_is : (found : Option Key) (room : ℕ) → replies (export_reply found room) ≡ computed_unless (export_refusal found) (replies (exported_reply (bytes_of_key found) room))
 export_is None room = refl
 export_is (Some key) room = by_rows (bit_and key.attributes.policy.usage.0 1 == 0) (is_opaque key.attributes) (first_row (room_rows (length key.bytes) room)) (given key.bytes)

@@ -2,7 +2,7 @@
 use Rattle.std.specs.Prelude.{◌≡◌, ◌≤◌, ℕ, true, false, List, Some, None}
 use Rattle.std.specs.FinMap as map
 use Rattle.psa_status.specs.declared.Status.TheVariants.{Success}
-use Rattle.store_model.specs.Prelude.{Store, is_opaque_key, Random, bytes_of, Outcome, computed_unless, replies, with_computed, step, Service, OnStore, id_read, may_change_keys}
+use Rattle.store_model.specs.Prelude.{Store, is_opaque_key, Random, bytes_of_key, Outcome, computed_unless, replies, with_computed, step, Service, OnStore, id_read, may_change_keys}
 use Rattle.key_policy.specs.Uses.{use_refusal}
 use Rattle.service_calls.specs.Meanings.{model_hash_call, model_keyed_call}
 use Rattle.service_calls.specs.declared.store_calls.HashCall.{HashCall}
@@ -18,7 +18,7 @@ KeyedCallsAreTheModels =
     (store : Store) (caller : ℕ) (random : Random) (call : KeyedCall) (id room : ℕ) →
     (is_of_element call ≡ true → is_opaque_key (map.get store.keys id) ≡ false) →
     step store caller random (model_keyed_call call id room)
-    ≡ with_computed store (computed_unless (use_refusal (wanted_by call) (map.get store.keys id)) (computed_by call (bytes_of (map.get store.keys id)) random room))
+    ≡ with_computed store (computed_unless (use_refusal (wanted_by call) (map.get store.keys id)) (computed_by call (bytes_of_key (map.get store.keys id)) random room))
 
 -- a call with a key reads it, and changes no key
 abbrev pub KeyedCallsRead : Type 0

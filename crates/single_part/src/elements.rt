@@ -4,7 +4,7 @@ ghost use Rattle.std.specs.Result.{is_ok};
 ghost use Rattle.store_model.specs.Prelude.{Reply};
 ghost use Rattle.service_calls.specs.Answered.{AnswersReply};
 ghost use Rattle.service_calls.specs.Meanings.{model_keyed_call};
-ghost use Rattle.secure_element_calls.specs.Answers.{AnswersCall, status_of};
+ghost use Rattle.secure_element_calls.specs.Answers.{AnswersCall, not_computed_status};
 ghost use Rattle.secure_element_calls.specs.Calls.{model_call};
 ghost use Rattle.secure_element_calls.specs.Replies.{HasDrawn};
 ghost use Rattle.single_part.specs.Elements.{IsElementCall, has_vector, is_of_element, takes_vector};
@@ -79,7 +79,7 @@ impl<'a> Computation<'a> {
     /// What the call answers that the secure element computed, or for which it failed.
     pub fn computed_output(&self, computed: Result<usize, NotComputed>) -> Result<Output, Status>
         ensures reply { (element : ElementCall) (reply : Reply) → IsElementCall self.now.call element → AnswersCall element computed reply → AnswersReply result reply }
-        ensures failure { MatchResult computed (λ length. is_ok result ≡ true) (λ why. result ≡ Err (status_of why)) }
+        ensures failure { MatchResult computed (λ length. is_ok result ≡ true) (λ why. result ≡ Err (not_computed_status why)) }
     {
         match computed {
             Ok(length) => match self.asked.call {

@@ -11,7 +11,7 @@ use Rattle.store_model.specs.Prelude.{Import, GetAttributes, Export, created_unl
 use Rattle.store_core.specs.declared.store.Store.{Store}
 use Rattle.store_core.specs.Prelude.{AddsAs, Gives, HasOut, IsEntry, Reads, ReadsAndGives, Stands, Takes, Creates, HasOutBeside, IsCreating, RecordsStated, IsRefused, mark_of}
 use Rattle.store_core.proofs.Histories.{quiet_leaves}
-use Rattle.store_bench.specs.Keeping.{GivesLease, Keeps, StaysOut, first_has}
+use Rattle.store_bench.specs.Keeping.{GivesLease, StandsForSomeHistory, StaysOut, first_has}
 use Rattle.store_bench.proofs.Outs.{are_one, hold, lease_beside, filling_alone, first_gains, is_out}
 use Rattle.disk_face.specs.declared.Disk as Disk
 use Rattle.driver_dispatch.specs.declared.devices.Devices as Devices
@@ -19,7 +19,7 @@ use Rattle.admission.specs.declared.rules.Admission as Admission
 
 module _ {D A C : Type 0} (disks : Disk.Ghosts D) (elements : Devices.Ghosts A) (admits : Admission.Ghosts C) where
   abbrev KeepsHere : Store D A C → List Pairs → Type 0
-  KeepsHere = Keeps disks elements admits
+  KeepsHere = StandsForSomeHistory disks elements admits
 
   -- the store stands for something
   pub somehow : (store : Store D A C) (all : List Pairs) → KeepsHere store all → Stands disks elements admits store

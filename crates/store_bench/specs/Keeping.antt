@@ -27,7 +27,7 @@ pub record AreLeases (own : Pairs) (most : ℕ) : Type 0 where
   pub fillings : count_by (λ p. p.1 == 0) own ≡ 0
 
 -- A store stands for some history, with these pairs out; its disk has its full length, and its buffer is clear.
-pub record Keeps {D A C : Type 0} (disks : Disk.Ghosts D) (elements : Devices.Ghosts A) (admits : Admission.Ghosts C)
+pub record StandsForSomeHistory {D A C : Type 0} (disks : Disk.Ghosts D) (elements : Devices.Ghosts A) (admits : Admission.Ghosts C)
     (store : Store D A C) (all : List Pairs) : Type 0 where
   pub start : Service
   pub opening : Opening
@@ -38,7 +38,7 @@ pub record Keeps {D A C : Type 0} (disks : Disk.Ghosts D) (elements : Devices.Gh
 
 module _ {D A C : Type 0} (disks : Disk.Ghosts D) (elements : Devices.Ghosts A) (admits : Admission.Ghosts C) where
   abbrev KeepsHere : Store D A C → List Pairs → Type 0
-  KeepsHere = Keeps disks elements admits
+  KeepsHere = StandsForSomeHistory disks elements admits
 
   -- it does so with some leases of the first caller out, so many at most, and perhaps with this one further
   abbrev pub KeepsLeases : Store D A C → (most : ℕ) → Type 0

@@ -2,7 +2,7 @@
 ghost use Rattle.std.specs.Prelude.{◌≡◌, ◌≤◌, ◌∷◌, [], ℕ, length, IfOk};
 ghost use Rattle.key_cells.specs.Prelude.{IsKeyOf};
 
-use crate::room::Room;
+use crate::plain_disk::PlainDisk;
 use key_attributes::{Attributes, KeyId, KeyType, Lifetime, Policy, Usage};
 use key_cells::{CellFault, Cells, OpenFault};
 use std::alloc::Global;
@@ -26,22 +26,22 @@ pub fn one_byte_key(id: u32) -> Attributes
 }
 
 /// A new store.
-pub fn new_store(alloc: Global) -> Result<Cells<Room>, OpenFault>
+pub fn new_store(alloc: Global) -> Result<Cells<PlainDisk>, OpenFault>
     ensures size { IfOk result (λ cells. length cells.disk.bytes.items ≡ 557120) }
-    ensures slots { IfOk result (λ cells. length cells.slots.items ≡ 512) }
+    ensures slots { IfOk result (λ cells. length cells.states.items ≡ 512) }
 {
-    match Cells::open(alloc, Room::new(alloc)) {
+    match Cells::open(alloc, PlainDisk::new(alloc)) {
         Ok(cells) => Ok(cells),
         Err((_disk, fault)) => Err(fault),
     }
 }
 
 /// Makes a key in each of 512 cells.
-pub fn fill(cells: &mut Cells<Room>) -> Result<(), CellFault>
+pub fn fill(cells: &mut Cells<PlainDisk>) -> Result<(), CellFault>
     requires size { length cells.old.disk.bytes.items ≡ 557120 }
-    requires slots { length cells.old.slots.items ≡ 512 }
+    requires slots { length cells.old.states.items ≡ 512 }
     ensures size { length cells.new.disk.bytes.items ≡ 557120 }
-    ensures slots { length cells.new.slots.items ≡ 512 }
+    ensures slots { length cells.new.states.items ≡ 512 }
 {
     for id in 1..513u32 {
         cells.create(0, &one_byte_key(id), &[0xa5])?;
@@ -51,7 +51,7 @@ pub fn fill(cells: &mut Cells<Room>) -> Result<(), CellFault>
 
 /// Looks for the last two of 512 keys in turn. Which of them comes next hangs on what was found, so that no look can be
 /// left out.
-pub fn look(cells: &Cells<Room>, turns: usize) -> Option<usize> {
+pub fn look(cells: &Cells<PlainDisk>, turns: usize) -> Option<usize> {
     let mut last = cells.find(512);
     'looks: for _ in 0..turns {
         let id = match last {

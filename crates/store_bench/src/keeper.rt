@@ -29,11 +29,11 @@ impl<D: Disk, A: Devices, C: Admission> Model for Keeper<D, A, C> {
 
     ghost Value = { Store D A C };
 
-    ghost use Rattle.store_bench.specs.Keeping.{Keeps, none_out};
+    ghost use Rattle.store_bench.specs.Keeping.{StandsForSomeHistory, none_out};
 
     ghost view = { λ k. k.store };
 
-    ghost invariant = { λ k. Keeps D.Disk A.Devices C.Admission k.store none_out
+    ghost invariant = { λ k. StandsForSomeHistory D.Disk A.Devices C.Admission k.store none_out
         × IfSome k.spare (λ spare. IsClear spare) };
 }
 

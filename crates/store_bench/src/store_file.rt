@@ -2,12 +2,12 @@
 ghost use Rattle.std.specs.Prelude.{◌≡◌, length, IfSome};
 
 use crate::file_turns;
-use crate::room::Room;
+use crate::plain_disk::PlainDisk;
 use key_cells::Cells;
 use std::alloc::Global;
 
 // A full store.
-fn full_store(alloc: Global) -> Option<Cells<Room>>
+fn full_store(alloc: Global) -> Option<Cells<PlainDisk>>
     ensures { IfSome result (λ cells. length cells.disk.bytes.items ≡ 557120) }
 {
     let Ok(mut cells) = file_turns::new_store(alloc) else {

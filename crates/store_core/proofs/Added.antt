@@ -1,12 +1,12 @@
 -- A store with one key more.
 use Rattle.std.proofs.Common.{ne_eqb, Bool, List, None, Option, Some, [], ap, arith, cond, eq-eqb, false, inl, inr, length, nat_lt, refl, set, slice_index, slice_set, subst, sym, true, ℕ, ◌+◌, ◌/◌, ◌<◌, ◌==◌, ◌^◌, ◌∙◌, ◌≡◌, ◌≢◌, ◌≤◌, ◌⊎◌}
-use Rattle.store_core.proofs.Common.{Attributes, Free, HeldKey, HeldKeys, HoldsHandle, HoldsKeys, IsDirectory, IsFirstWithoutKey, IsPut, IsSomeKey, IsSoundStore, IsStated, IsThereOrNew, Key, Lacks, MayBeKept, Open, Puts, SlotHasKey, bytes-buffer_of, cases_eq, cell_slot, count_persistent, counted, created, durable_keys, false≢true, full_slot, held_key, identified, is_opaque, is_open, is_volatile, is_volatile_of, kept, len_kept-insert, length-map, live_volatile, made_of, made_with, nat_cmp_total, new_id, new_is_free, new_key, of_volatile, put, room_of, settled_slot, settled_slots, stated_id, stored, unsigned_tied, with_held_key}
+use Rattle.store_core.proofs.Common.{Attributes, Free, HeldKey, HeldKeys, HoldsHandle, HoldsKeys, IsDirectory, IsFirstWithoutKey, IsPut, IsSomeKey, IsSoundStore, IsStated, IsThereOrNew, Key, Lacks, MayBeKept, Open, Puts, SlotHasKey, bytes-buffer_of, cases_eq, cell_state, count_persistent, counted, created, durable_keys, false≢true, full_slot, held_key, identified, is_opaque, is_open, is_volatile, is_volatile_of, kept, len_kept-insert, length-map, live_volatile, made_of, made_with, nat_cmp_total, new_id, new_is_free, new_key, of_volatile, put, room_of, settled_state, settled_states, stated_id, stored, unsigned_tied, with_held_key}
 use Rattle.std.proofs.lemmas.Bool.{le-ltb, lt-ltb, eqb-true}
 use Rattle.std.proofs.lemmas.Option.{none-some, same_Some}
 use Rattle.std.proofs.lemmas.List.{get_or-set_same, get_or-set_other}
 use Rattle.std.specs.Option.{option_map}
 use Rattle.std.specs.FinMap as map
-use Rattle.key_cells.specs.declared.slot.Slot as cell
+use Rattle.key_cells.specs.declared.state.CellState as cell
 use Rattle.store_model.specs.Store as model
 use Rattle.store_core.proofs.Kept.{HasCellKey}
 use Rattle.store_core.proofs.Removing.{settled_at, settled_opens}
@@ -144,7 +144,7 @@ module _ (m : model.Store) (caller : ℕ) (recorded : Attributes) (bytes : List 
   -- THE DIRECTORY
 
   -- no cell has a volatile key
-  pub directory_same : (slots : List cell.Slot) → is_volatile recorded ≡ true → IsDirectory slots m → IsDirectory slots after
+  pub directory_same : (slots : List cell.CellState) → is_volatile recorded ≡ true → IsDirectory slots m → IsDirectory slots after
   directory_same slots is d = record {
     sized = d.sized;
     there = λ q k e lasts. in_cell q k (old_or_new q k e) lasts;
@@ -154,38 +154,38 @@ module _ (m : model.Store) (caller : ℕ) (recorded : Attributes) (bytes : List 
     not_new : (q : ℕ) (k : Key) → map.get m.keys q ≡ Some k → q ≡ id → ⊥
     not_new q k e same = none-some k (sym none_here ∙ (ap (map.get m.keys) (sym same) ∙ e))
 
-    in_cell : (q : ℕ) (k : Key) → IsOldOrNew q k → is_volatile k.attributes ≡ false → (c : ℕ) × (c < 512) × (cell_slot slots c ≡ Open q k.number)
+    in_cell : (q : ℕ) (k : Key) → IsOldOrNew q k → is_volatile k.attributes ≡ false → (c : ℕ) × (c < 512) × (cell_state slots c ≡ Open q k.number)
     in_cell q k (inl here) lasts = absurd (false≢true (sym lasts ∙ (ap (λ (x : Key). is_volatile x.attributes) (sym here.1) ∙ is)))
     in_cell q k (inr old) lasts = d.there q k old.1 lasts
 
   -- a persistent one has the first cell that had none
-  module _ (slots slots' : List cell.Slot) (c : ℕ) (is : is_volatile recorded ≡ false) (d : IsDirectory slots m) (without : IsFirstWithoutKey slots c) (sized : length slots' ≡ 512)
-      (placed : slots' ≡ set (settled_slots slots) c (Open recorded.id.0 (m.found + m.calls))) where
-    inside : c < length (settled_slots slots)
-    inside = let lt = without.within in omega (arith, lt, length-map slots settled_slot)
+  module _ (slots slots' : List cell.CellState) (c : ℕ) (is : is_volatile recorded ≡ false) (d : IsDirectory slots m) (without : IsFirstWithoutKey slots c) (sized : length slots' ≡ 512)
+      (placed : slots' ≡ set (settled_states slots) c (Open recorded.id.0 (m.found + m.calls))) where
+    inside : c < length (settled_states slots)
+    inside = let lt = without.within in omega (arith, lt, length-map slots settled_state)
 
-    at_c : cell_slot slots' c ≡ Open recorded.id.0 (m.found + m.calls)
-    at_c = ap (λ (l : List cell.Slot). cell_slot l c) placed ∙ get_or-set_same (settled_slots slots) c (Open recorded.id.0 (m.found + m.calls)) Free inside
+    at_c : cell_state slots' c ≡ Open recorded.id.0 (m.found + m.calls)
+    at_c = ap (λ (l : List cell.CellState). cell_state l c) placed ∙ get_or-set_same (settled_states slots) c (Open recorded.id.0 (m.found + m.calls)) Free inside
 
-    elsewhere : (other : ℕ) → other ≢ c → cell_slot slots' other ≡ settled_slot (cell_slot slots other)
-    elsewhere other differ = ap (λ (l : List cell.Slot). cell_slot l other) placed ∙ (get_or-set_other (settled_slots slots) c other (Open recorded.id.0 (m.found + m.calls)) Free differ ∙ settled_at slots other)
+    elsewhere : (other : ℕ) → other ≢ c → cell_state slots' other ≡ settled_state (cell_state slots other)
+    elsewhere other differ = ap (λ (l : List cell.CellState). cell_state l other) placed ∙ (get_or-set_other (settled_states slots) c other (Open recorded.id.0 (m.found + m.calls)) Free differ ∙ settled_at slots other)
 
     opens_twice : (q n r k : ℕ) → Open q n ≡ Open r k → (q ≡ r) × (n ≡ k)
     opens_twice q n r k e = (cc, cc)
 
     -- an open cell is the new key's, or was there
     abbrev IsOpenCell : (x q n : ℕ) → Type 0
-    IsOpenCell x q n = ((x ≡ c) × (q ≡ recorded.id.0) × (n ≡ m.found + m.calls)) ⊎ ((x ≢ c) × (cell_slot slots x ≡ Open q n))
+    IsOpenCell x q n = ((x ≡ c) × (q ≡ recorded.id.0) × (n ≡ m.found + m.calls)) ⊎ ((x ≢ c) × (cell_state slots x ≡ Open q n))
 
-    open_cell : (x q n : ℕ) → cell_slot slots' x ≡ Open q n → IsOpenCell x q n
+    open_cell : (x q n : ℕ) → cell_state slots' x ≡ Open q n → IsOpenCell x q n
     open_cell x q n at = elim (cases_eq x c) [
-      | inl same ↦ let two = opens_twice q n recorded.id.0 (m.found + m.calls) (sym at ∙ (ap (cell_slot slots') same ∙ at_c)) in inl (same, two.0, two.1)
-      | inr other ↦ inr (other, settled_opens (cell_slot slots x) q n (sym (elsewhere x other) ∙ at))
+      | inl same ↦ let two = opens_twice q n recorded.id.0 (m.found + m.calls) (sym at ∙ (ap (cell_state slots') same ∙ at_c)) in inl (same, two.0, two.1)
+      | inr other ↦ inr (other, settled_opens (cell_state slots x) q n (sym (elsewhere x other) ∙ at))
     ]
 
     -- a cell that had a key isn't the new key's
-    not_first : (x q n : ℕ) → cell_slot slots x ≡ Open q n → x ≢ c
-    not_first x q n at same = false≢true (sym without.here ∙ (ap (λ k. is_open (cell_slot slots k)) (sym same) ∙ ap is_open at))
+    not_first : (x q n : ℕ) → cell_state slots x ≡ Open q n → x ≢ c
+    not_first x q n at same = false≢true (sym without.here ∙ (ap (λ k. is_open (cell_state slots k)) (sym same) ∙ ap is_open at))
 
     not_new : (q : ℕ) (k : Key) → map.get m.keys q ≡ Some k → q ≢ recorded.id.0
     not_new q k e same = none-some k (sym (none_stated is) ∙ (ap (map.get m.keys) (sym same) ∙ e))
@@ -197,10 +197,10 @@ module _ (m : model.Store) (caller : ℕ) (recorded : Attributes) (bytes : List 
       only = λ x q n lt at. of_cell x q n lt (open_cell x q n at);
       one = λ x other q n another lt less at also. same_cell x other q n another lt less (open_cell x q n at) (open_cell other q another also);
     } where
-      in_cell : (q : ℕ) (k : Key) → IsOldOrNew q k → is_volatile k.attributes ≡ false → (x : ℕ) × (x < 512) × (cell_slot slots' x ≡ Open q k.number)
+      in_cell : (q : ℕ) (k : Key) → IsOldOrNew q k → is_volatile k.attributes ≡ false → (x : ℕ) × (x < 512) × (cell_state slots' x ≡ Open q k.number)
       in_cell q k (inl here) lasts = let lt = without.within in let n = d.sized in
           (c, omega arith, at_c ∙ (ap (λ i. Open i (m.found + m.calls)) (sym (stated_here is) ∙ sym here.0) ∙ ap (λ (x : Key). Open q x.number) here.1))
-      in_cell q k (inr old) lasts = let x = d.there q k old.1 lasts in (x.0, x.1, elsewhere x.0 (not_first x.0 q k.number x.2) ∙ ap settled_slot x.2)
+      in_cell q k (inr old) lasts = let x = d.there q k old.1 lasts in (x.0, x.1, elsewhere x.0 (not_first x.0 q k.number x.2) ∙ ap settled_state x.2)
 
       of_cell : (x q n : ℕ) → x < 512 → IsOpenCell x q n → HasCellKey after q n
       of_cell x q n lt (inl here) = (new, ap (map.get after.keys) (here.1 ∙ sym (stated_here is)) ∙ put_here, is, sym here.2)

@@ -1,6 +1,6 @@
 -- Turns in which the secure element computes.
 use Rattle.std.proofs.Common.{inl, Bool, Err, IsErrOf, IsTrue, List, MatchOption, None, Ok, Option, Result, Some, [], ap, cond, false, is_some, length, not, refl, subst, sym, true, ℕ, ◌&&◌, ◌++◌, ◌==◌, ◌||◌, ◌∙◌, ◌∷◌, ◌≡◌}
-use Rattle.store_core.proofs.Common.{AnswersCall, Attributes, Call, Entry, Failed, FaultCounts, FaultMark, Hardware, HasFault, HeldKey, HeldKeys, HoldsHandle, IsAnswered, IsComputed, IsEntry, IsOfElement, IsSomeKey, IsSoundStore, IsTold, IsVolatileKey, Key, MayBeMarked, OnStore, Opening, Pairs, Refused, Rose, Service, StandsFor, Status, Store, algorithm_asked, all_rows, attribute_rows, buffer_after, checked, class_asked, counted, element_reply, filled, first_row, first_row-back, first_row-front, fits_type, has_secure_element, held_key, identified, is_opaque, is_opaque_key, is_volatile, key_rows, last_counts, location, mark_computed, marked_reply, may_change_keys, model_call, none_holds, persistence, refusal, replay, reply_on, reply_to, reply_unless, rows_before, unless, unless-ok, usage_asked, use_rows}
+use Rattle.store_core.proofs.Common.{AnswersCall, Attributes, Call, Entry, Failed, FaultCounts, FaultMark, Hardware, HasFault, HeldKey, HeldKeys, HoldsHandle, IsElementAnswered, IsComputed, IsEntry, IsOfElement, IsSomeKey, IsSoundStore, IsTold, IsVolatileKey, Key, MayBeMarked, OnStore, Opening, Pairs, Refused, Rose, Service, StandsFor, Status, Store, algorithm_asked, all_rows, attribute_rows, buffer_after, checked, class_asked, counted, element_reply, filled, first_row, first_row-back, first_row-front, fits_type, has_secure_element, held_key, identified, is_opaque, is_opaque_key, is_volatile, key_rows, last_counts, location, mark_computed, marked_reply, may_change_keys, model_call, none_holds, persistence, refusal, replay, reply_on, reply_to, reply_unless, rows_before, unless, unless-ok, usage_asked, use_rows}
 use Rattle.std.proofs.lemmas.Bool.{eqb-true, false_from_ne_true, not-false, true_from_ne_false}
 use Rattle.disk_face.specs.declared.Disk as Disk
 use Rattle.driver_dispatch.specs.declared.devices.Devices as Devices
@@ -84,7 +84,7 @@ held_of key = record { key_type = key.attributes.key_type.0; bytes = key.bytes }
 -- what the element computed is the answer
 pub answered : (held : Option HeldKeys) (id : ℕ) (call : ElementCall) (old new : List ℕ) (result : Result ℕ NotComputed) (m : model.Store) (key : Key) (handle : ℕ) →
     map.get m.keys id ≡ Some key → HoldsHandle held handle (λ h. h ≡ held_of key) → first_row (key_rows call (Some key)) ≡ None →
-    IsComputed held handle call old new result → IsAnswered held id call old new result m
+    IsComputed held handle call old new result → IsElementAnswered held id call old new result m
 answered held id call old new result m key handle there is none computed =
     let room : ℕ = length old in
     let rows : first_row (rows_before call room) ≡ first_row (all_rows call room (map.get m.keys id)) =
@@ -102,7 +102,7 @@ answered held id call old new result m key handle there is none computed =
 
 -- a row of the key refuses
 pub unused : (held : Option HeldKeys) (id : ℕ) (call : ElementCall) (old : List ℕ) (m : model.Store) (key : Key) (status : Status) →
-    map.get m.keys id ≡ Some key → first_row (key_rows call (Some key)) ≡ Some status → IsAnswered held id call old old (Err (Refused status)) m
+    map.get m.keys id ≡ Some key → first_row (key_rows call (Some key)) ≡ Some status → IsElementAnswered held id call old old (Err (Refused status)) m
 unused held id call old m key status there refused =
     let room : ℕ = length old in
     let result : Result ℕ NotComputed = Err (Refused status) in
@@ -167,7 +167,7 @@ fault_of (Ok n) tells before e rose = tt
 fault_of (Err (Refused status)) tells before e rose = tt
 fault_of (Err Failed) tells before e rose = rose refl
 
-pub mark_may : (held : Option HeldKeys) (id : ℕ) (call : ElementCall) (old new : List ℕ) (result : Result ℕ NotComputed) (m : model.Store) → IsAnswered held id call old new result m →
+pub mark_may : (held : Option HeldKeys) (id : ℕ) (call : ElementCall) (old new : List ℕ) (result : Result ℕ NotComputed) (m : model.Store) → IsElementAnswered held id call old new result m →
     is_opaque_key (map.get m.keys id) ≡ true → (service : Service) (caller : ℕ) → service.store ≡ m → MayBeMarked service caller (OnStore (model_call call id (length old))) (mark_computed result)
 mark_may held id call old now (Ok n) m answer opaque service caller is = tt
 mark_may held id call old now (Err (Refused status)) m answer opaque service caller is = tt

@@ -33,13 +33,13 @@ module _ {D A C : Type 0} (disks : Disk.Ghosts D) (elements : Devices.Ghosts A) 
     pub kept : count_persistent m'.keys ≡ new.kept
     pub slots : Agrees new.slots.table.slots m' all
     pub holdings : AreHoldings all
-    pub directory : IsDirectory new.file.cells.slots.items m'
+    pub directory : IsDirectory new.file.cells.states.items m'
     pub device : HoldsKeys (elements.keys new.devices) m'
     pub tells : is_some (disks.contents new.file.cells.disk) ≡ is_some (disks.contents old.file.cells.disk)
-    pub leads : (s : Course) → S s.service → m ≡ s.service.store → StandsForKeys disks old.file.cells.disk old.file.cells.slots.items (durable_keys m) s.doubt →
-        Leads disks old.file.cells.disk new.file.cells.disk old.file.cells.slots.items new.file.cells.slots.items (durable_keys m) s.doubt (durable_keys m') (doubt_after e s)
+    pub leads : (s : Course) → S s.service → m ≡ s.service.store → StandsForKeys disks old.file.cells.disk old.file.cells.states.items (durable_keys m) s.doubt →
+        Leads disks old.file.cells.disk new.file.cells.disk old.file.cells.states.items new.file.cells.states.items (durable_keys m) s.doubt (durable_keys m') (doubt_after e s)
     -- where nothing is in doubt afterwards, no cell is
-    pub settles : (s : Course) → S s.service → m ≡ s.service.store → (s.doubt ≡ [] → IsSure old.file.cells.slots.items) → doubt_after e s ≡ [] → IsSure new.file.cells.slots.items
+    pub settles : (s : Course) → S s.service → m ≡ s.service.store → (s.doubt ≡ [] → IsSure old.file.cells.states.items) → doubt_after e s ≡ [] → IsSure new.file.cells.states.items
     pub fault : HasFault (is_some (disks.contents new.file.cells.disk)) before e mark
     pub may : (service : Service) → S service → m ≡ service.store → MayBeMarked service e.caller e.call mark
 
@@ -78,7 +78,7 @@ module _ {D A C : Type 0} (disks : Disk.Ghosts D) (elements : Devices.Ghosts A) 
       after_course : m' ≡ (after e course).service.store
       after_course = t.becomes course.service before_course of_course
 
-      leads_here : Leads disks past now old.file.cells.slots.items new.file.cells.slots.items (durable_keys m) course.doubt (durable_keys m') (doubt_after e course)
+      leads_here : Leads disks past now old.file.cells.states.items new.file.cells.states.items (durable_keys m) course.doubt (durable_keys m') (doubt_after e course)
       leads_here = t.leads course before_course of_course (s.file (tells_before is))
 
       fits_old : (image : List ℕ) → FitsKeys (durable_keys m) course.doubt image → FitsCourse course image
@@ -95,7 +95,7 @@ module _ {D A C : Type 0} (disks : Disk.Ghosts D) (elements : Devices.Ghosts A) 
 
       fits_now : (image : List ℕ) → disks.left_since now (disks.moment now) image → FitsCourse (after e course) image
       fits_now image left =
-          fits_new image (stands_fits disks now new.file.cells.slots.items (durable_keys m') (doubt_after e course) image leads_here.stands (only_now now image left))
+          fits_new image (stands_fits disks now new.file.cells.states.items (durable_keys m') (doubt_after e course) image leads_here.stands (only_now now image left))
 
     pub turns : IsEntry disks elements admits new mark e → (n : StandsFor disks elements admits new start opening (h ++ e ∷ []) more) × (n.holds.model ≡ m')
     turns is = (record { holds = holds; counts = counts_push opening.counts h e ∙ counted_here }, refl)
@@ -122,7 +122,7 @@ module _ {D A C : Type 0} (disks : Disk.Ghosts D) (elements : Devices.Ghosts A) 
           holdings = t.holdings;
           directory = t.directory;
           device = t.device;
-          file = λ tells. subst (StandsForKeys disks now new.file.cells.slots.items (durable_keys m')) (sym (ap (λ (c : Course). c.doubt) (course_push start h e))) (leads_here tells).stands;
+          file = λ tells. subst (StandsForKeys disks now new.file.cells.states.items (durable_keys m')) (sym (ap (λ (c : Course). c.doubt) (course_push start h e))) (leads_here tells).stands;
           sure = λ tells none. t.settles course (before_course tells) (of_course tells) (s.sure (tells_before tells)) (sym (ap (λ (c : Course). c.doubt) (course_push start h e)) ∙ none);
           promise = λ tells. promise_goes_on after FitsCourse (opened start) (λ (x : Entry). x.done) (disks.left_since past) (disks.left_since now) (disks.moment past) (disks.moment now) opening.moment h e (s.promise (tells_before tells))
               (within_here tells) (fits_now tells) is.done;
@@ -154,10 +154,10 @@ module _ {D A C : Type 0} (disks : Disk.Ghosts D) (elements : Devices.Ghosts A) 
     abbrev pub ended : KeyFile D → Store D A C
     ended file = record old { file = file; slots = slots; devices = devices; ranked = old.ranked + 1 }
 
-    pub unmade : (file : KeyFile D) → IsDirectory file.cells.slots.items s.model → is_some (disks.contents file.cells.disk) ≡ is_some (disks.contents old.file.cells.disk) →
-        ((c : Course) → S c.service → s.model ≡ c.service.store → StandsForKeys disks old.file.cells.disk old.file.cells.slots.items (durable_keys s.model) c.doubt →
-        Leads disks old.file.cells.disk file.cells.disk old.file.cells.slots.items file.cells.slots.items (durable_keys s.model) c.doubt (durable_keys s.model) (doubt_after e c)) →
-        ((c : Course) → S c.service → s.model ≡ c.service.store → (c.doubt ≡ [] → IsSure old.file.cells.slots.items) → doubt_after e c ≡ [] → IsSure file.cells.slots.items) →
+    pub unmade : (file : KeyFile D) → IsDirectory file.cells.states.items s.model → is_some (disks.contents file.cells.disk) ≡ is_some (disks.contents old.file.cells.disk) →
+        ((c : Course) → S c.service → s.model ≡ c.service.store → StandsForKeys disks old.file.cells.disk old.file.cells.states.items (durable_keys s.model) c.doubt →
+        Leads disks old.file.cells.disk file.cells.disk old.file.cells.states.items file.cells.states.items (durable_keys s.model) c.doubt (durable_keys s.model) (doubt_after e c)) →
+        ((c : Course) → S c.service → s.model ≡ c.service.store → (c.doubt ≡ [] → IsSure old.file.cells.states.items) → doubt_after e c ≡ [] → IsSure file.cells.states.items) →
         IsEntry disks elements admits (ended file) mark e → (n : StandsFor disks elements admits (ended file) start opening (h ++ e ∷ []) more) × (n.holds.model ≡ counted s.model)
     unmade file directory tells leads settles is =
         let told = retold (disks.contents old.file.cells.disk) (disks.contents file.cells.disk) start (h ++ e ∷ []) tells in
@@ -172,7 +172,7 @@ module _ {D A C : Type 0} (disks : Disk.Ghosts D) (elements : Devices.Ghosts A) 
           kept = s.kept;
           slots = quiet slots.table.slots s.model (counted s.model) more agrees (record { keys = refl; given = omega arith });
           holdings = holdings;
-          directory = same_directory file.cells.slots.items s.model directory;
+          directory = same_directory file.cells.states.items s.model directory;
           device = device;
           tells = tells;
           leads = leads;
@@ -185,8 +185,8 @@ module _ {D A C : Type 0} (disks : Disk.Ghosts D) (elements : Devices.Ghosts A) 
     pub leaves : ((c : Course) → S c.service → doubt_after e c ≡ c.doubt) →
         IsEntry disks elements admits (ended old.file) mark e → (n : StandsFor disks elements admits (ended old.file) start opening (h ++ e ∷ []) more) × (n.holds.model ≡ counted s.model)
     leaves doubts = unmade old.file s.directory refl
-        (λ c known at stands. subst (Leads disks old.file.cells.disk old.file.cells.disk old.file.cells.slots.items old.file.cells.slots.items (durable_keys s.model) c.doubt (durable_keys s.model)) (sym (doubts c known))
-        (stays disks old.file.cells.disk old.file.cells.slots.items (durable_keys s.model) (durable_keys s.model) c.doubt (λ q. refl) stands))
+        (λ c known at stands. subst (Leads disks old.file.cells.disk old.file.cells.disk old.file.cells.states.items old.file.cells.states.items (durable_keys s.model) c.doubt (durable_keys s.model)) (sym (doubts c known))
+        (stays disks old.file.cells.disk old.file.cells.states.items (durable_keys s.model) (durable_keys s.model) c.doubt (λ q. refl) stands))
         (λ c known at sure none. sure (sym (doubts c known) ∙ none))
 
   -- one whose request leaves all keys

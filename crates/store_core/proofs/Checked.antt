@@ -1,11 +1,11 @@
 -- What the table of creations has decided of a key that is to be made.
 use Rattle.std.proofs.Common.{⊎_elim, sym, ne_eqb, Bool, List, None, Ok, Some, ap, arith, bit_and, cond, eq-eqb, false, is_some, length, nat_lt, not, refl, subst, sym, true, ℕ, ◌%◌, ◌&&◌, ◌*◌, ◌/◌, ◌<◌, ◌==◌, ◌^◌, ◌||◌, ◌∙◌, ◌≡◌, ◌≢◌, ◌≤◌}
-use Rattle.store_core.proofs.Common.{Agrees, Attributes, HasNoKey, InvalidArgument, IsDirectory, IsFull, IsKeyOf, IsSoundStore, IsStated, NoKey, NotSupported, Open, Pairs, Slot, attribute_rows, cell_slot, checked, count_persistent, creation_of_slot, false≢true, filled, first_row, full_within, has_id, has_secure_element, holds_key, implied_usage, is_key_type, is_lifetime, is_opaque, is_open, is_volatile, key_is_full, key_of_slot, location, low_id, nat_tests, none_holds, permits_size, persistence, ranked, size_rows, slot_at, stated_id, unless, unless-ok}
+use Rattle.store_core.proofs.Common.{Agrees, Attributes, HasNoKey, InvalidArgument, IsDirectory, IsFull, IsKeyOf, IsSoundStore, IsStated, NoKey, NotSupported, Open, Pairs, Slot, attribute_rows, cell_state, checked, count_persistent, creation_of_state, false≢true, filled, first_row, full_within, has_id, has_secure_element, holds_key, implied_usage, is_key_type, is_lifetime, is_opaque, is_open, is_volatile, key_is_full, key_of_slot, location, low_id, nat_tests, none_holds, permits_size, persistence, ranked, size_rows, slot_at, stated_id, unless, unless-ok}
 use Rattle.std.proofs.lemmas.Bool.{and_from, and_parts, or_cases, eqb-true, false_from_ne_true, lt-ltb, not-false}
 use Rattle.std.proofs.lemmas.Option.{none-some}
 use Rattle.std.specs.declared.cmp.Ordering.TheVariants.{Equal}
 use Rattle.std.specs.FinMap as map
-use Rattle.key_cells.specs.declared.slot.Slot as cell
+use Rattle.key_cells.specs.declared.state.CellState as cell
 use Rattle.key_slots.proofs.Sums.{total-least, into_map}
 use Rattle.store_model.specs.Store as model
 use Rattle.store_core.proofs.Kept.{key_of_cell}
@@ -79,8 +79,8 @@ module _ (a : Attributes) (bytes : List ℕ) (driver : Bool) (checks : checked a
 -- A KEY THAT ISN'T THERE
 
 -- no cell has it
-pub in_no_cell : (slots : List cell.Slot) (m : model.Store) (id : ℕ) → IsDirectory slots m → map.get m.keys id ≡ None → HasNoKey slots id
-in_no_cell slots m id d none c lt = false_from_ne_true (has_id id (cell_slot slots c)) (λ has.
+pub in_no_cell : (slots : List cell.CellState) (m : model.Store) (id : ℕ) → IsDirectory slots m → map.get m.keys id ≡ None → HasNoKey slots id
+in_no_cell slots m id d none c lt = false_from_ne_true (has_id id (cell_state slots c)) (λ has.
     let sized = d.sized in
     let key = key_of_cell slots m id c d (omega arith) has in
     none-some key.0 (sym none ∙ key.1))
@@ -95,11 +95,11 @@ in_no_slot slots m all id sized agrees none i = false_from_ne_true (holds_key id
 
 -- A FULL DIRECTORY
 
-abbrev id_in : cell.Slot → ℕ
+abbrev id_in : cell.CellState → ℕ
 id_in (Open id number) = id
 id_in slot = 0
 
-opens_so : (slot : cell.Slot) → is_open slot ≡ true → slot ≡ Open (id_in slot) (creation_of_slot slot)
+opens_so : (slot : cell.CellState) → is_open slot ≡ true → slot ≡ Open (id_in slot) (creation_of_state slot)
 opens_so (Open id number) is = refl
 opens_so slot is = absurd (false≢true is)
 
@@ -107,24 +107,24 @@ abbrev is_low : ℕ → Bool
 is_low n = nat_lt n 0x40000000
 
 -- where each cell has a key there are as many persistent keys as cells
-pub full_counts : (slots : List cell.Slot) (m : model.Store) → IsDirectory slots m → IsSoundStore m → IsFull slots → 512 ≤ count_persistent m.keys
+pub full_counts : (slots : List cell.CellState) (m : model.Store) → IsDirectory slots m → IsSoundStore m → IsFull slots → 512 ≤ count_persistent m.keys
 full_counts slots m d sound full =
-    let fit = into_map (map.retain_keys m.keys is_low) (λ c. id_in (cell_slot slots c)) (λ c. is_open (cell_slot slots c)) 512 has one in
-    let least = total-least (λ c. cond (is_open (cell_slot slots c)) 1 0) 512 (λ c lt. let sized = d.sized in subst (λ b. 1 ≤ cond b 1 0) (sym (full c (omega arith))) (omega arith)) in
+    let fit = into_map (map.retain_keys m.keys is_low) (λ c. id_in (cell_state slots c)) (λ c. is_open (cell_state slots c)) 512 has one in
+    let least = total-least (λ c. cond (is_open (cell_state slots c)) 1 0) 512 (λ c lt. let sized = d.sized in subst (λ b. 1 ≤ cond b 1 0) (sym (full c (omega arith))) (omega arith)) in
     omega arith where
       kept : (q : ℕ) → map.get (map.retain_keys m.keys is_low) q ≡ cond (is_low q) (map.get m.keys q) None
       kept q = map.get-retain_keys m.keys is_low q (λ x tied. ap is_low (sym (ranked q x Equal (sym tied))))
 
-      has : (c : ℕ) → c < 512 → is_open (cell_slot slots c) ≡ true → is_some (map.get (map.retain_keys m.keys is_low) (id_in (cell_slot slots c))) ≡ true
+      has : (c : ℕ) → c < 512 → is_open (cell_state slots c) ≡ true → is_some (map.get (map.retain_keys m.keys is_low) (id_in (cell_state slots c))) ≡ true
       has c lt is =
-          let id = id_in (cell_slot slots c) in
-          let key = d.only c id (creation_of_slot (cell_slot slots c)) lt (opens_so (cell_slot slots c) is) in
+          let id = id_in (cell_state slots c) in
+          let key = d.only c id (creation_of_state (cell_state slots c)) lt (opens_so (cell_state slots c) is) in
           let k = sound.keys id key.0 key.1 in
           let most = (low_id key.0.attributes (length key.0.bytes) (has_secure_element m) k.attributes key.2).1 in
           let named = k.identifier in
           ap is_some (kept id ∙ (ap (λ b. cond b (map.get m.keys id) None) (lt-ltb id 0x40000000 (omega arith)) ∙ key.1))
 
-      one : (c other : ℕ) → c < 512 → other < 512 → is_open (cell_slot slots c) ≡ true → is_open (cell_slot slots other) ≡ true → id_in (cell_slot slots c) ≡ id_in (cell_slot slots other) → c ≡ other
+      one : (c other : ℕ) → c < 512 → other < 512 → is_open (cell_state slots c) ≡ true → is_open (cell_state slots other) ≡ true → id_in (cell_state slots c) ≡ id_in (cell_state slots other) → c ≡ other
       one c other lt less is also same =
-          d.one c other (id_in (cell_slot slots other)) (creation_of_slot (cell_slot slots c)) (creation_of_slot (cell_slot slots other)) lt less
-          (opens_so (cell_slot slots c) is ∙ ap (λ n. Open n (creation_of_slot (cell_slot slots c))) same) (opens_so (cell_slot slots other) also)
+          d.one c other (id_in (cell_state slots other)) (creation_of_state (cell_state slots c)) (creation_of_state (cell_state slots other)) lt less
+          (opens_so (cell_state slots c) is ∙ ap (λ n. Open n (creation_of_state (cell_state slots c))) same) (opens_so (cell_state slots other) also)

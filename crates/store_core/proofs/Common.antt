@@ -6,10 +6,10 @@ pub use Rattle.driver_dispatch.specs.Held.{HeldKey, HeldKeys, held_key, with_cop
 pub use Rattle.key_attributes.specs.Checks.{attribute_rows, checked, filled, implied_usage, is_key_type, is_lifetime, is_stated_id, location, permits_size, persistence, size_rows}
 pub use Rattle.key_attributes.specs.declared.Attributes.{Attributes}
 pub use Rattle.key_cells.proofs.CellsRead.{content_there, for_told, some_weaker}
-pub use Rattle.key_cells.specs.Prelude.{Absent, Content, Doubtful, Finds, HasKey, HasNoKey, HasOneEach, HasZeros, HoldsId, HoldsKey, IsFirstWithoutKey, IsFoundIn, IsFull, IsKeyOf, IsNamed, IsNumbered, IsOpened, IsPersistent, IsRefused, IsSure, Present, Shows, Sound, StandsForContents, body, cell_slot, closed, content_at, content_of, creation_of_slot, found_in, gate, has_id, is_open, opened_gate, place, settled_slot, settled_slots}
+pub use Rattle.key_cells.specs.Prelude.{Absent, Content, Doubtful, Finds, HasKey, HasNoKey, HasOneEach, HasZeros, HoldsId, HoldsKey, IsFirstWithoutKey, IsFoundIn, IsFull, IsKeyOf, IsNamed, IsNumbered, IsOpened, IsPersistent, IsOpeningRefused, IsSure, Present, Shows, Sound, StandsForContents, body, cell_state, closed, content_at, content_of, creation_of_state, found_in, gate, has_id, is_open, opened_gate, place, settled_state, settled_states}
 unfoldable pub use Rattle.key_cells.specs.Prelude.{zeros}
 pub use Rattle.key_cells.specs.declared.reading.OpenFault.TheVariants.{Memory}
-pub use Rattle.key_cells.specs.declared.slot.Slot.TheVariants.{Free, Open, Shut, Unsure}
+pub use Rattle.key_cells.specs.declared.state.CellState.TheVariants.{Free, Open, Shut, Unsure}
 pub use Rattle.key_policy.proofs.Refusals.{local, missing, refused_so}
 pub use Rattle.key_policy.specs.Uses.{FitsUse, use_refusal}
 pub use Rattle.key_policy.specs.declared.key_use.KeyUse.{KeyUse}
@@ -18,7 +18,7 @@ pub use Rattle.key_slots.proofs.Counting.{always_found, few_of_one}
 pub use Rattle.key_slots.proofs.Wiping.{ends_none, ends_then, keeps_all}
 pub use Rattle.key_slots.specs.Holdings.{AreHoldings, Gains, IsHolding, Pairs, named}
 pub use Rattle.key_slots.specs.Standing.{Agrees, IsGone, IsOut, IsThereOrNew, IsVolatileKey, Puts, SlotHasKey, slot_bytes}
-pub use Rattle.key_slots.specs.Wiping.{EndsOnly, IsEmptyOrIdle, IsFillingOf, IsIdleOf, IsTakenOf, Keeps, TakesOne}
+pub use Rattle.key_slots.specs.Wiping.{EndsOnly, IsEmptyOrIdle, IsFillingOf, IsIdleOf, IsTakenOf, KeepsSlot, TakesOne}
 pub use Rattle.key_slots.specs.declared.slots.KeySlots.{KeySlots}
 pub use Rattle.persistent_keys.proofs.Leading.{stands_fits, stays}
 pub use Rattle.persistent_keys.specs.Files.{AreFound, Doubt, FitsEitherKeys, FitsKeys, IsPut, Keys, Leads, StandsForKeys, Stored, TellsCell, doubt_undestroyed, doubt_unmade, stored}
@@ -45,9 +45,9 @@ pub use Rattle.std.proofs.lemmas.List.{get_or-map, get_or-replicate, get_or_past
 pub use Rattle.std.proofs.lemmas.List.Sums.{count_by-le-length, count_by_more_no, count_by_more_yes, sum_by-cons}
 pub use Rattle.std.specs.Cmp.{unsigned_tied}
 pub use Rattle.std.specs.Option.{option_map_or}
-pub use Rattle.store_core.specs.Creations.{Enters, IsAmong, IsCreating, IsMaking, IsMaterial, IsReady, IsSince, IsUnkept, RecordsStated, mark_unkept}
+pub use Rattle.store_core.specs.Creations.{Enters, IsAmong, IsCreating, IsMaking, IsMaterial, IsAboutToCreate, IsSince, IsUnkept, RecordsStated, mark_unkept}
 pub use Rattle.store_core.specs.Durability.{Course, FitsCourse, KeepsKeys, after, course_of, doubt_after, doubt_by, durable_keys, is_destruction, kept, opened}
-pub use Rattle.store_core.specs.Opaque.{IsAnswered}
+pub use Rattle.store_core.specs.Opaque.{IsElementAnswered}
 pub use Rattle.store_core.specs.Represents.{Holds, HoldsKeys, IsDirectory, IsEntry, IsReading, IsTold, LeavesKeys, Opening, ReadsNone, StandsFor, Told, ranked_on}
 pub use Rattle.store_core.specs.Start.{AreOpened, IsStart, opening_of}
 pub use Rattle.store_core.specs.Uses.{HasAttributes, IsBrought, IsForgotten, IsLent, KeepsOrEmpties, mark_of, status_of, there_rows}

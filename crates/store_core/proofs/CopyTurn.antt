@@ -1,6 +1,6 @@
 -- A turn that copies a key.
 use Rattle.std.proofs.Common.{inl, Bool, Err, IsErrOf, List, None, Ok, Option, Result, Some, [], ap, cond, false, if◌then◌else◌, is_some, length, refl, subst, sym, true, ℕ, ◌++◌, ◌+◌, ◌∙◌, ◌∷◌, ◌≡◌}
-use Rattle.store_core.proofs.Common.{Agrees, AreHoldings, Attributes, Buffer, Copy, Corrupt, Disk, Entry, FaultCounts, Holds, HoldsHandle, InvalidHandle, IsEntry, IsMaking, IsMaterial, IsReady, IsTold, Key, KeySlots, Missing, OnStore, Opening, Outcome, Pairs, Reading, Request, Rose, Service, Slot, SlotHasKey, StandsFor, Status, Storage, Store, Unread, buffer_of, bytes-buffer_of, bytes_of, created_unless, id_read, is_destruction, is_opaque, is_persistent_key, mark_of, plain_step, reads_persistent, recorded_copy, recorded_of, replay, status_of, step_copy, there_rows}
+use Rattle.store_core.proofs.Common.{Agrees, AreHoldings, Attributes, Buffer, Copy, Corrupt, Disk, Entry, FaultCounts, Holds, HoldsHandle, InvalidHandle, IsEntry, IsMaking, IsMaterial, IsAboutToCreate, IsTold, Key, KeySlots, Missing, OnStore, Opening, Outcome, Pairs, Reading, Request, Rose, Service, Slot, SlotHasKey, StandsFor, Status, Storage, Store, Unread, buffer_of, bytes-buffer_of, bytes_of, created_unless, id_read, is_destruction, is_opaque, is_persistent_key, mark_of, plain_step, reads_persistent, recorded_copy, recorded_of, replay, status_of, step_copy, there_rows}
 use Rattle.disk_face.specs.declared.Disk as Disk
 use Rattle.driver_dispatch.specs.declared.devices.Devices as Devices
 use Rattle.admission.specs.declared.rules.Admission as Admission
@@ -17,7 +17,7 @@ use Rattle.store_core.proofs.Finishing.{refuses, unread}
 
 -- the bytes of the key of an identifier
 abbrev pub bytes_at : model.Store → ℕ → List ℕ
-bytes_at m id = key_use.bytes_of (map.get m.keys id)
+bytes_at m id = key_use.bytes_of_key (map.get m.keys id)
 
 -- what a copy records of it
 abbrev pub copied_at : model.Store → (caller source : ℕ) → Attributes → Result Attributes Status
@@ -85,7 +85,7 @@ module _ (e : Entry) (caller source : ℕ) (stated : Attributes) (by : e.caller 
         )
         go false is = ap bytes_of filled ∙ (bytes-buffer_of (bytes_of slot.buffer) ∙ (has.bytes ∙ ap (λ b. cond b [] key.bytes) (sym is)))
 
-      abbrev pub ready : IsReady disks elements admits filled_store caller recorded material_of start opening h all e
+      abbrev pub ready : IsAboutToCreate disks elements admits filled_store caller recorded material_of start opening h all e
       ready =
           let c = copies n.model caller key stated recorded (sym decided) in
           let f = with_buffer disks elements admits (IsTold (disks.contents mid.file.cells.disk) start (h ++ e ∷ [])) mid buffer start opening h all inl n in
@@ -95,8 +95,8 @@ module _ (e : Entry) (caller source : ℕ) (stated : Attributes) (by : e.caller 
       making = record {
         by = by;
         keeps = keeps;
-        leaves = λ k. copy_store (replay start h) ∙ outcome_is (λ (o : Outcome). o.store) (replay start h) n.model (Ok recorded) key.bytes (n.replayed k) decided_here (ap key_use.bytes_of there);
-        answers = λ k. copy_reply (replay start h) ∙ outcome_is (λ (o : Outcome). o.reply) (replay start h) n.model (Ok recorded) key.bytes (n.replayed k) decided_here (ap key_use.bytes_of there);
+        leaves = λ k. copy_store (replay start h) ∙ outcome_is (λ (o : Outcome). o.store) (replay start h) n.model (Ok recorded) key.bytes (n.replayed k) decided_here (ap key_use.bytes_of_key there);
+        answers = λ k. copy_reply (replay start h) ∙ outcome_is (λ (o : Outcome). o.reply) (replay start h) n.model (Ok recorded) key.bytes (n.replayed k) decided_here (ap key_use.bytes_of_key there);
       }
 
 -- A SOURCE THAT WASN'T FOUND

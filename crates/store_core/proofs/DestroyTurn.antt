@@ -1,12 +1,12 @@
 -- A ranked turn that destroys a key.
 use Rattle.std.proofs.Common.{List, None, Some, [], ap, arith, false, is_some, length, not, refl, set, slice_index, slice_set, subst, sym, true, ℕ, ◌++◌, ◌+◌, ◌-◌, ◌/◌, ◌<◌, ◌^◌, ◌∙◌, ◌∷◌, ◌≡◌, ◌⊎◌}
-use Rattle.store_core.proofs.Common.{Agrees, Destroy, Doubt, Entry, FaultMark, Free, HasFault, HasNoKey, IsDirectory, IsEntry, IsPut, IsSoundStore, IsSure, Key, KeyFile, KeySlots, Keys, Leads, MayBeMarked, OnStore, Opening, Pairs, Plain, Puts, Service, Slot, SlotHasKey, StandsFor, StandsForKeys, Store, Stored, cell_slot, creation_of_slot, destroyed_sound, doubt_by, durable_keys, has_id, holds_key, is_persistent_key, is_volatile, kept, key_changed, key_of_slot, ranked_on, settled_slots, slot_at, stays, stored, without_key}
+use Rattle.store_core.proofs.Common.{Agrees, Destroy, Doubt, Entry, FaultMark, Free, HasFault, HasNoKey, IsDirectory, IsEntry, IsPut, IsSoundStore, IsSure, Key, KeyFile, KeySlots, Keys, Leads, MayBeMarked, OnStore, Opening, Pairs, Plain, Puts, Service, Slot, SlotHasKey, StandsFor, StandsForKeys, Store, Stored, cell_state, creation_of_state, destroyed_sound, doubt_by, durable_keys, has_id, holds_key, is_persistent_key, is_volatile, kept, key_changed, key_of_slot, ranked_on, settled_states, slot_at, stays, stored, without_key}
 use Rattle.disk_face.specs.declared.Disk as Disk
 use Rattle.driver_dispatch.specs.declared.devices.Devices as Devices
 use Rattle.admission.specs.declared.rules.Admission as Admission
 use Rattle.std.specs.Option.{option_map}
 use Rattle.std.specs.FinMap as map
-use Rattle.key_cells.specs.declared.slot.Slot as cell
+use Rattle.key_cells.specs.declared.state.CellState as cell
 use Rattle.store_model.specs.Store as model
 use Rattle.store_core.proofs.Holding.{counts_of, same_device}
 use Rattle.store_core.proofs.Histories.{told_before}
@@ -23,7 +23,7 @@ pub record IsInSlot (m : model.Store) (id : ℕ) (slot : Slot) : Type 0 where
   pub volatile : is_volatile key.attributes ≡ true
   pub has : SlotHasKey slot key
 
-pub slot_key : (cells : List cell.Slot) (slots : List Slot) (m : model.Store) (all : List Pairs) (id i : ℕ) → IsDirectory cells m → HasNoKey cells id → Agrees slots m all → i < 384 → holds_key id (slot_at slots i) ≡ true → IsInSlot m id (slot_at slots i)
+pub slot_key : (cells : List cell.CellState) (slots : List Slot) (m : model.Store) (all : List Pairs) (id i : ℕ) → IsDirectory cells m → HasNoKey cells id → Agrees slots m all → i < 384 → holds_key id (slot_at slots i) ≡ true → IsInSlot m id (slot_at slots i)
 slot_key cells slots m all id i d none agrees lt holds =
     let k = key_of_slot slots m all id i agrees lt holds in
     record { key = k.0; there = k.1; volatile = in_no_cell cells m id k.0 d none k.1; has = k.2 }
@@ -34,8 +34,8 @@ module _ {D A C : Type 0} (disks : Disk.Ghosts D) (elements : Devices.Ghosts A) 
   abbrev disk : D
   disk = old.file.cells.disk
 
-  abbrev cells : List cell.Slot
-  cells = old.file.cells.slots.items
+  abbrev cells : List cell.CellState
+  cells = old.file.cells.states.items
 
   abbrev StandsOld : Type 0
   StandsOld = StandsFor disks elements admits old start opening h all
@@ -61,13 +61,13 @@ module _ {D A C : Type 0} (disks : Disk.Ghosts D) (elements : Devices.Ghosts A) 
   -- what the file makes of a key that it destroys
   pub record IsUnfiled (file : KeyFile D) (mark : FaultMark) (c : ℕ) : Type 0 where
     pub within : c < 512
-    pub key : has_id id (cell_slot cells c) ≡ true
-    pub sized : length file.cells.slots.items ≡ 512
-    pub missing : settled_slots file.cells.slots.items ≡ set (settled_slots cells) c Free
+    pub key : has_id id (cell_state cells c) ≡ true
+    pub sized : length file.cells.states.items ≡ 512
+    pub missing : settled_states file.cells.states.items ≡ set (settled_states cells) c Free
     pub tells : is_some (disks.contents file.cells.disk) ≡ is_some (disks.contents disk)
     pub leads : (keys keys' : Keys) (doubt : Doubt) (key : Stored) → StandsForKeys disks disk cells keys doubt → keys id ≡ Some key → IsPut keys keys' id None →
-        Leads disks disk file.cells.disk cells file.cells.slots.items keys doubt keys' (doubt_by mark true key doubt)
-    pub settles : (key : Stored) (doubt : Doubt) → doubt_by mark true key doubt ≡ [] → IsSure file.cells.slots.items
+        Leads disks disk file.cells.disk cells file.cells.states.items keys doubt keys' (doubt_by mark true key doubt)
+    pub settles : (key : Stored) (doubt : Doubt) → doubt_by mark true key doubt ≡ [] → IsSure file.cells.states.items
 
   -- a store without a key of its file
   abbrev pub unfiled : KeyFile D → KeySlots → Store D A C
@@ -97,10 +97,10 @@ module _ {D A C : Type 0} (disks : Disk.Ghosts D) (elements : Devices.Ghosts A) 
         kept = omega (arith, fewer, was);
         slots = forgets m (gone m id) all s.holds.slots s.holds.sound (takes_out m id);
         holdings = s.holds.holdings;
-        directory = directory_emptied m id key there cells file.cells.slots.items c (creation_of_slot (cell_slot cells c)) (record { sized = f.sized; inside = f.within; settled = f.missing }) (opens_with (cell_slot cells c) id f.key) s.holds.directory;
+        directory = directory_emptied m id key there cells file.cells.states.items c (creation_of_state (cell_state cells c)) (record { sized = f.sized; inside = f.within; settled = f.missing }) (opens_with (cell_state cells c) id f.key) s.holds.directory;
         device = device_stays m id key there (elements.keys old.devices) s.holds.device;
         tells = f.tells;
-        leads = λ course known same stands. subst (Leads disks disk file.cells.disk cells file.cells.slots.items (durable_keys m) course.doubt (durable_keys (gone m id)))
+        leads = λ course known same stands. subst (Leads disks disk file.cells.disk cells file.cells.states.items (durable_keys m) course.doubt (durable_keys (gone m id)))
             (sym (doubt_here e id call course mark _ is.marked (ap (λ (x : model.Store). durable_keys x id) (sym same) ∙ kept_here m id key there false persistent)))
             (f.leads (durable_keys m) (durable_keys (gone m id)) course.doubt (stored key.number key.attributes key.bytes) stands (kept_here m id key there false persistent) (without_kept m id));
         settles = λ course known same sure none. f.settles (stored key.number key.attributes key.bytes) course.doubt

@@ -1,11 +1,11 @@
 -- The one-thread store and the devices without a key that is destroyed.
 use Rattle.std.proofs.Common.{⊎_elim, ne_eqb, Bool, List, None, Ok, Option, Some, [], ap, arith, cond, eq-eqb, false, inl, inr, length, nat_lt, not, refl, slice_index, slice_set, sym, true, ℕ, ◌&&◌, ◌+◌, ◌-◌, ◌/◌, ◌<◌, ◌==◌, ◌^◌, ◌||◌, ◌∙◌, ◌≡◌, ◌≢◌, ◌≤◌}
-use Rattle.store_core.proofs.Common.{Attributes, Course, Destroy, Doubt, Entry, FaultMark, HasNoKey, HeldKey, HeldKeys, HoldsHandle, InvalidHandle, IsDirectory, IsSomeKey, IsSoundStore, IsVolatileOf, Key, KeyMap, OnStore, Open, Plain, Request, Service, Status, Storage, Stored, Writing, as_stated, attribute_rows, cases_eq, cases_lt, checked, count_persistent, counted, creation_of_slot, decided, destroy_rows, destroyed, doubt_after, doubt_by, doubt_undestroyed, false≢true, filled, first_row, get_or_past, has_id, has_secure_element, held_key, identified, is_destruction, is_lifetime, is_opaque, is_volatile, is_volatile_of, kept, key_changed, live_volatile, location, low_id, none_holds, of_volatile, option_map_or, outcome_of, persistence, serve, unless-ok}
+use Rattle.store_core.proofs.Common.{Attributes, Course, Destroy, Doubt, Entry, FaultMark, HasNoKey, HeldKey, HeldKeys, HoldsHandle, InvalidHandle, IsDirectory, IsSomeKey, IsSoundStore, IsVolatileOf, Key, KeyMap, OnStore, Open, Plain, Request, Service, Status, Storage, Stored, Writing, as_stated, attribute_rows, cases_eq, cases_lt, checked, count_persistent, counted, creation_of_state, decided, destroy_rows, destroyed, doubt_after, doubt_by, doubt_undestroyed, false≢true, filled, first_row, get_or_past, has_id, has_secure_element, held_key, identified, is_destruction, is_lifetime, is_opaque, is_volatile, is_volatile_of, kept, key_changed, live_volatile, location, low_id, none_holds, of_volatile, option_map_or, outcome_of, persistence, serve, unless-ok}
 use Rattle.std.proofs.lemmas.Bool.{and_parts, or_cases, eqb-true, le-ltb, lt-ltb, not-false, true_from_ne_false}
 use Rattle.std.proofs.lemmas.List.{get_or-set_same, get_or-set_other}
 use Rattle.std.specs.Prelude.{⊤}
 use Rattle.std.specs.FinMap as map
-use Rattle.key_cells.specs.declared.slot.Slot as cell
+use Rattle.key_cells.specs.declared.state.CellState as cell
 use Rattle.store_model.specs.Store as model
 use Rattle.store_core.proofs.Removing.{one_less, nothing_removed, gone}
 
@@ -64,12 +64,12 @@ still_doubted false key doubt none = cc
 
 -- KEYS BY THEIR IDENTIFIERS
 
-pub opens_with : (slot : cell.Slot) (id : ℕ) → has_id id slot ≡ true → slot ≡ Open id (creation_of_slot slot)
+pub opens_with : (slot : cell.CellState) (id : ℕ) → has_id id slot ≡ true → slot ≡ Open id (creation_of_state slot)
 opens_with (Open own number) id is = ap (λ (n : ℕ). Open n number) (eqb-true own id is)
 opens_with slot id is = absurd (false≢true is)
 
 -- a key that no cell has is volatile
-pub in_no_cell : (slots : List cell.Slot) (m : model.Store) (id : ℕ) (key : Key) → IsDirectory slots m → HasNoKey slots id → map.get m.keys id ≡ Some key → is_volatile key.attributes ≡ true
+pub in_no_cell : (slots : List cell.CellState) (m : model.Store) (id : ℕ) (key : Key) → IsDirectory slots m → HasNoKey slots id → map.get m.keys id ≡ Some key → is_volatile key.attributes ≡ true
 in_no_cell slots m id key d none is = true_from_ne_false (is_volatile key.attributes) (λ persistent.
     let there = d.there id key is persistent in
     let sized = d.sized in

@@ -1,6 +1,6 @@
 -- Which slots the calls within a turn end.
 use Rattle.std.proofs.Common.{List, None, ap, arith, inl, inr, subst, sym, true, ℕ, ⊎_elim, ◌∙◌, ◌≡◌, ◌⊎◌}
-use Rattle.store_core.proofs.Common.{Agrees, EndsOnly, IsEmptyOrIdle, IsFillingOf, IsLawful, IsLawfulSlot, IsTakenOf, Keeps, KeepsOrEmpties, Pairs, Slot, Table, TakesOne, empty_slot, ends_then, full_within, holds_key, keeps_all, key_is_full, key_of_slot, slot_at}
+use Rattle.store_core.proofs.Common.{Agrees, EndsOnly, IsEmptyOrIdle, IsFillingOf, IsLawful, IsLawfulSlot, IsTakenOf, KeepsSlot, KeepsOrEmpties, Pairs, Slot, Table, TakesOne, empty_slot, ends_then, full_within, holds_key, keeps_all, key_is_full, key_of_slot, slot_at}
 use Rattle.std.proofs.lemmas.Option.{none-some}
 use Rattle.std.specs.FinMap as map
 use Rattle.store_model.specs.Store as model
@@ -45,15 +45,15 @@ load_empties old mid new slot first then emptied = λ i lt.
     (ends_then old mid new (IsTakenOf slot) (IsFillingOf slot) (λ k s. k ≡ slot) first then (λ k ended. ended.0) (λ k kept ended. ended.0) i lt)
 
 -- a slot that keeps what it has is empty where it was
-still_empty : (old new : Slot) → IsLawfulSlot new → Keeps old new → old ≡ empty_slot → new ≡ empty_slot
+still_empty : (old new : Slot) → IsLawfulSlot new → KeepsSlot old new → old ≡ empty_slot → new ≡ empty_slot
 still_empty old new law kept empty = law.empty (kept.state ∙ ap (λ (s : Slot). s.state) empty)
 
 -- a source could not be read, and the slot that waited for its copy is given up
 pub copy_empties : (old mid : List Slot) (new : Table) (slot : ℕ) → IsLawful new → KeepsOrEmpties old mid → EndsOnly mid new.slots (IsFillingOf slot) → slot_at new.slots slot ≡ empty_slot → KeepsOrEmpties old new.slots
 copy_empties old mid new slot law first then emptied = λ i lt.
     ⊎_elim
-    (λ (kept : Keeps (slot_at mid i) (slot_at new.slots i)). ⊎_elim
-    (λ (before : Keeps (slot_at old i) (slot_at mid i)). inl (record {
+    (λ (kept : KeepsSlot (slot_at mid i) (slot_at new.slots i)). ⊎_elim
+    (λ (before : KeepsSlot (slot_at old i) (slot_at mid i)). inl (record {
       state = kept.state ∙ before.state;
       creation = kept.creation ∙ before.creation;
       attributes = kept.attributes ∙ before.attributes;

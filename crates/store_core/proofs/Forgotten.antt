@@ -1,10 +1,10 @@
 -- What a device has of the keys that are destroyed.
 use Rattle.std.proofs.Common.{List, Option, ap, cond, false, subst, sym, true, ℕ, ◌<◌, ◌∙◌, ◌≡◌}
-use Rattle.store_core.proofs.Common.{Agrees, HeldKeys, IsDirectory, IsForgotten, IsLawful, IsSoundStore, Key, Pairs, Slot, Table, cell_slot, false≢true, has_id, holds_key, is_opaque, is_volatile, key_of_slot, slot_at, without_key}
+use Rattle.store_core.proofs.Common.{Agrees, HeldKeys, IsDirectory, IsForgotten, IsLawful, IsSoundStore, Key, Pairs, Slot, Table, cell_state, false≢true, has_id, holds_key, is_opaque, is_volatile, key_of_slot, slot_at, without_key}
 use Rattle.std.proofs.lemmas.Bool.{false_from_ne_true}
 use Rattle.std.proofs.lemmas.Option.{same_Some}
 use Rattle.std.specs.Option.{option_map}
-use Rattle.key_cells.specs.declared.slot.Slot as cell
+use Rattle.key_cells.specs.declared.state.CellState as cell
 use Rattle.store_model.specs.Store as model
 use Rattle.store_core.proofs.ByElement.{opaque_is_volatile}
 use Rattle.store_core.proofs.Kept.{key_of_cell}
@@ -14,8 +14,8 @@ pub local_forgotten : (slot : Slot) (held : Option HeldKeys) → is_opaque slot.
 local_forgotten slot held local = sym (ap (λ b. cond b (option_map (without_key slot.creation) held) held) local)
 
 -- nor one of a key that a cell has
-pub kept_forgotten : (cells : List cell.Slot) (slots : List Slot) (m : model.Store) (all : List Pairs) (id c i : ℕ) (held : Option HeldKeys) → IsDirectory cells m → IsSoundStore m → Agrees slots m all →
-    c < 512 → has_id id (cell_slot cells c) ≡ true → i < 384 → holds_key id (slot_at slots i) ≡ true → IsForgotten (slot_at slots i) held held
+pub kept_forgotten : (cells : List cell.CellState) (slots : List Slot) (m : model.Store) (all : List Pairs) (id c i : ℕ) (held : Option HeldKeys) → IsDirectory cells m → IsSoundStore m → Agrees slots m all →
+    c < 512 → has_id id (cell_state cells c) ≡ true → i < 384 → holds_key id (slot_at slots i) ≡ true → IsForgotten (slot_at slots i) held held
 kept_forgotten cells slots m all id c i held d sound agrees within has lt holds = local_forgotten (slot_at slots i) held (false_from_ne_true (is_opaque (slot_at slots i).attributes) (λ opaque.
     let k = key_of_slot slots m all id i agrees lt holds in
     let own = key_of_cell cells m id c d within has in

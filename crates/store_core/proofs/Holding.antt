@@ -42,15 +42,15 @@ module _ {D A C : Type 0} (disks : Disk.Ghosts D) (elements : Devices.Ghosts A) 
   -- a file that was read, or left alone
   pub record IsReadOn (old new : KeyFile D) : Type 0 where
     pub same : disks.contents new.cells.disk ≡ disks.contents old.cells.disk
-    pub slots : new.cells.slots ≡ old.cells.slots
-    pub keeps : (keys : Keys) (doubt : Doubt) → StandsForKeys disks old.cells.disk old.cells.slots.items keys doubt →
-        Leads disks old.cells.disk new.cells.disk old.cells.slots.items new.cells.slots.items keys doubt keys doubt
+    pub slots : new.cells.states ≡ old.cells.states
+    pub keeps : (keys : Keys) (doubt : Doubt) → StandsForKeys disks old.cells.disk old.cells.states.items keys doubt →
+        Leads disks old.cells.disk new.cells.disk old.cells.states.items new.cells.states.items keys doubt keys doubt
 
   pub left_alone : (file : KeyFile D) → IsReadOn file file
   left_alone file = record {
     same = refl;
     slots = refl;
-    keeps = λ keys doubt s. stays disks file.cells.disk file.cells.slots.items keys keys doubt (λ id. refl) s;
+    keeps = λ keys doubt s. stays disks file.cells.disk file.cells.states.items keys keys doubt (λ id. refl) s;
   }
 
   -- No key changes, and no entry is added: the file was read, the slots have these holdings, and a device has what it had.
@@ -90,7 +90,7 @@ module _ {D A C : Type 0} (disks : Disk.Ghosts D) (elements : Devices.Ghosts A) 
     before is = ap is_some (sym read.same) ∙ is
 
     leads : is_some (disks.contents file.cells.disk) ≡ true →
-        Leads disks old.file.cells.disk file.cells.disk old.file.cells.slots.items file.cells.slots.items (durable_keys s.model) (course_of start h).doubt (durable_keys s.model) (course_of start h).doubt
+        Leads disks old.file.cells.disk file.cells.disk old.file.cells.states.items file.cells.states.items (durable_keys s.model) (course_of start h).doubt (durable_keys s.model) (course_of start h).doubt
     leads is = read.keeps (durable_keys s.model) (course_of start h).doubt (s.file (before is))
 
   module _ (old : Store D A C) (start : Service) (opening : Opening) (h : List Entry) where

@@ -1,9 +1,9 @@
 -- What the directory says of the keys, and keys as a file keeps them.
 use Rattle.std.proofs.Common.{Bool, List, None, Ok, Option, Some, [], ap, arith, bit_and, cond, eq-eqb, false, is_some, length, nat_le, not, refl, subst, sym, true, ℕ, ◌&&◌, ◌*◌, ◌<◌, ◌==◌, ◌∙◌, ◌∷◌, ◌≡◌, ◌≤◌}
-use Rattle.store_core.proofs.Common.{Attributes, HasNoKey, InvalidArgument, InvalidHandle, IsDirectory, IsKeyOf, IsVolatileKey, Key, NotSupported, Open, as_stated, attribute_rows, cell_slot, checked, creation_of_slot, false≢true, filled, first_row, first_row-back, has_id, identified, implied_usage, is_lifetime, is_opaque, is_persistent_key, is_stated_id, is_volatile, nat_tests, persistence, size_rows, there_rows, unless, unless-ok}
+use Rattle.store_core.proofs.Common.{Attributes, HasNoKey, InvalidArgument, InvalidHandle, IsDirectory, IsKeyOf, IsVolatileKey, Key, NotSupported, Open, as_stated, attribute_rows, cell_state, checked, creation_of_state, false≢true, filled, first_row, first_row-back, has_id, identified, implied_usage, is_lifetime, is_opaque, is_persistent_key, is_stated_id, is_volatile, nat_tests, persistence, size_rows, there_rows, unless, unless-ok}
 use Rattle.std.proofs.lemmas.Bool.{and_parts, and_right, cond-false, eqb-true}
 use Rattle.std.specs.FinMap as map
-use Rattle.key_cells.specs.declared.slot.Slot as cell
+use Rattle.key_cells.specs.declared.state.CellState as cell
 use Rattle.store_model.specs.Store as model
 
 -- THE DIRECTORY
@@ -12,9 +12,9 @@ use Rattle.store_model.specs.Store as model
 abbrev pub HasCellKey : model.Store → (id number : ℕ) → Type 0
 HasCellKey m id number = (key : Key) × (map.get m.keys id ≡ Some key) × (is_volatile key.attributes ≡ false) × (key.number ≡ number)
 
-pub key_of_cell : (slots : List cell.Slot) (m : model.Store) (id c : ℕ) → IsDirectory slots m → c < 512 → has_id id (cell_slot slots c) ≡ true → HasCellKey m id (creation_of_slot (cell_slot slots c))
-key_of_cell slots m id c d lt has = go (cell_slot slots c) refl has where
-  go : (slot : cell.Slot) → cell_slot slots c ≡ slot → has_id id slot ≡ true → HasCellKey m id (creation_of_slot slot)
+pub key_of_cell : (slots : List cell.CellState) (m : model.Store) (id c : ℕ) → IsDirectory slots m → c < 512 → has_id id (cell_state slots c) ≡ true → HasCellKey m id (creation_of_state (cell_state slots c))
+key_of_cell slots m id c d lt has = go (cell_state slots c) refl has where
+  go : (slot : cell.CellState) → cell_state slots c ≡ slot → has_id id slot ≡ true → HasCellKey m id (creation_of_state slot)
   go (Open own number) at is = subst (λ (n : ℕ). HasCellKey m n number) (eqb-true own id is) (d.only c own number lt at)
   go slot at is = absurd (false≢true is)
 
@@ -31,7 +31,7 @@ is_missing None is = refl
 is_missing (Some key) is = absurd (false≢true (sym is))
 
 -- there is no key where no slot has a volatile one and no cell has one
-pub no_key : (slots : List cell.Slot) (m : model.Store) (id : ℕ) → IsDirectory slots m → HasNoKey slots id → (IsVolatileKey (map.get m.keys id) → ⊥) → map.get m.keys id ≡ None
+pub no_key : (slots : List cell.CellState) (m : model.Store) (id : ℕ) → IsDirectory slots m → HasNoKey slots id → (IsVolatileKey (map.get m.keys id) → ⊥) → map.get m.keys id ≡ None
 no_key slots m id d none lasts = go (map.get m.keys id) refl lasts where
   in_cell : (key : Key) → map.get m.keys id ≡ Some key → (b : Bool) → is_volatile key.attributes ≡ b → (b ≡ true → ⊥) → ⊥
   in_cell key is true volatile lasts = lasts refl

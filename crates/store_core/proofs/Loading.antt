@@ -1,6 +1,6 @@
 -- A key that was loaded from the file.
 use Rattle.std.proofs.Common.{Bool, List, None, Option, Some, [], ap, arith, cond, false, inl, inr, is_some, nat_lt, refl, subst, sym, true, ℕ, ◌++◌, ◌<◌, ◌∙◌, ◌∷◌, ◌≡◌}
-use Rattle.store_core.proofs.Common.{Agrees, Attributes, Buffer, Entry, Gains, Holds, IsCaused, IsDirectory, IsKeyOf, IsTold, Key, KeyFile, KeySlots, NoKey, Opening, Pairs, Puts, Request, Service, Slot, SlotHasKey, Store, Stored, bytes-buffer_of, cell_slot, creation_of_slot, durable_keys, false≢true, full_slot, has_id, id_read, is_opaque, is_persistent_key, is_volatile_of, kept, reads_persistent, replay, stored}
+use Rattle.store_core.proofs.Common.{Agrees, Attributes, Buffer, Entry, Gains, Holds, IsCaused, IsDirectory, IsKeyOf, IsTold, Key, KeyFile, KeySlots, NoKey, Opening, Pairs, Puts, Request, Service, Slot, SlotHasKey, Store, Stored, bytes-buffer_of, cell_state, creation_of_state, durable_keys, false≢true, full_slot, has_id, id_read, is_opaque, is_persistent_key, is_volatile_of, kept, reads_persistent, replay, stored}
 use Rattle.disk_face.specs.declared.Disk as Disk
 use Rattle.driver_dispatch.specs.declared.devices.Devices as Devices
 use Rattle.admission.specs.declared.rules.Admission as Admission
@@ -84,19 +84,19 @@ module _ {D A C : Type 0} (disks : Disk.Ghosts D) (elements : Devices.Ghosts A) 
 
   module _ (id c : ℕ) (a : Attributes) (bytes : List ℕ) where
     abbrev number : ℕ
-    number = creation_of_slot (cell_slot old.file.cells.slots.items c)
+    number = creation_of_state (cell_state old.file.cells.states.items c)
 
     abbrev IsFound : Type 0
     IsFound = (n : HoldsAfter) × HasLoaded n.model id number a bytes
 
     -- the store holds the key that was loaded, in its slot
     pub loads : IsReadOn disks elements admits old.file file → (s : HoldsBefore) →
-        (IsTold told_here start h → id_read (replay start h) e.caller e.call ≡ Some id) → c < 512 → has_id id (cell_slot old.file.cells.slots.items c) ≡ true → IsKeyOf a bytes → a.id.0 ≡ id →
+        (IsTold told_here start h → id_read (replay start h) e.caller e.call ≡ Some id) → c < 512 → has_id id (cell_state old.file.cells.states.items c) ≡ true → IsKeyOf a bytes → a.id.0 ≡ id →
         (is_some told_here ≡ true → durable_keys s.model id ≡ Some (stored number a bytes)) → NoKey id old.slots.table.slots →
         ((m : model.Store) → Agrees old.slots.table.slots m all → HasLoaded m id number a bytes → Agrees slots.table.slots m all) → IsFound
     loads read s reads lt has key named filed none fills = go (is_some told_here) refl where
       own : HasCellKey s.model id number
-      own = key_of_cell old.file.cells.slots.items s.model id c s.directory lt has
+      own = key_of_cell old.file.cells.states.items s.model id c s.directory lt has
 
       blind_again : is_some told_here ≡ false → is_some (disks.contents file.cells.disk) ≡ true → ⊥
       blind_again blind tells = false≢true (sym blind ∙ (ap is_some (sym read.same) ∙ tells))
@@ -124,7 +124,7 @@ module _ {D A C : Type 0} (disks : Disk.Ghosts D) (elements : Devices.Ghosts A) 
               ranked = s.ranked;
               slots = fills (replaced s.model id new) (agrees_after s.model id own.0 a bytes own.1 own.2 key named old.slots.table.slots all none s.slots) there;
               holdings = s.holdings;
-              directory = subst (λ (l : _). IsDirectory l.items (replaced s.model id new)) (sym read.slots) (directory_after s.model id own.0 a bytes own.1 own.2 key named old.file.cells.slots.items s.directory);
+              directory = subst (λ (l : _). IsDirectory l.items (replaced s.model id new)) (sym read.slots) (directory_after s.model id own.0 a bytes own.1 own.2 key named old.file.cells.states.items s.directory);
               device = device_after s.model id own.0 a bytes own.1 own.2 key named (elements.keys old.devices) s.device;
               file = λ tells. absurd (blind_again blind tells);
               sure = λ tells none. absurd (blind_again blind tells);

@@ -96,17 +96,17 @@ module _ {D A C : Type 0} (disks : Disk.Ghosts D) (elements : Devices.Ghosts A) 
     pub live : (caller : ℕ) → caller ≤ 16 → live_volatile m'.keys caller ≡ slice_index new.live caller
     pub kept : count_persistent m'.keys ≡ new.kept
     pub slots : Agrees new.slots.table.slots m' less
-    pub directory : IsDirectory new.file.cells.slots.items m'
+    pub directory : IsDirectory new.file.cells.states.items m'
     pub device : HoldsKeys (elements.keys new.devices) m'
     pub tells : is_some (disks.contents new.file.cells.disk) ≡ is_some (disks.contents disk)
 
   -- a key was made
   pub makes : (caller : ℕ) (recorded : Attributes) (bytes : List ℕ) (s : HoldsOld) → 1 ≤ caller → caller ≤ 16 → MayBeKept s.model caller recorded (length bytes) → is_destruction e.call ≡ false →
       (IsTold (disks.contents disk) start (h ++ e ∷ []) → IsMakingAt e caller recorded bytes (replay start h)) → AreHoldings less → IsSameBut (created s.model caller recorded bytes).store →
-      ((doubt : Doubt) → StandsForKeys disks disk old.file.cells.slots.items (durable_keys s.model) doubt →
-      Leads disks disk new.file.cells.disk old.file.cells.slots.items new.file.cells.slots.items (durable_keys s.model) doubt (durable_keys (created s.model caller recorded bytes).store)
+      ((doubt : Doubt) → StandsForKeys disks disk old.file.cells.states.items (durable_keys s.model) doubt →
+      Leads disks disk new.file.cells.disk old.file.cells.states.items new.file.cells.states.items (durable_keys s.model) doubt (durable_keys (created s.model caller recorded bytes).store)
       (cond (is_volatile recorded) doubt [])) →
-      ((doubt : Doubt) → (doubt ≡ [] → IsSure old.file.cells.slots.items) → cond (is_volatile recorded) doubt [] ≡ [] → IsSure new.file.cells.slots.items) →
+      ((doubt : Doubt) → (doubt ≡ [] → IsSure old.file.cells.states.items) → cond (is_volatile recorded) doubt [] ≡ [] → IsSure new.file.cells.states.items) →
       IsTurnTo Plain → StandsNew
   makes caller recorded bytes s first last may keeps making holdings same leads settles is =
       (turns disks elements admits only_now (IsMakingAt e caller recorded bytes) (IsTold (disks.contents disk) start (h ++ e ∷ [])) old new start opening h all less e Plain (created s.model caller recorded bytes).store s
@@ -124,7 +124,7 @@ module _ {D A C : Type 0} (disks : Disk.Ghosts D) (elements : Devices.Ghosts A) 
         directory = same.directory;
         device = same.device;
         tells = same.tells;
-        leads = λ c known at stands. subst (Leads disks disk new.file.cells.disk old.file.cells.slots.items new.file.cells.slots.items (durable_keys s.model) c.doubt (durable_keys (created s.model caller recorded bytes).store))
+        leads = λ c known at stands. subst (Leads disks disk new.file.cells.disk old.file.cells.states.items new.file.cells.states.items (durable_keys s.model) c.doubt (durable_keys (created s.model caller recorded bytes).store))
             (sym (doubt_is c known at)) (leads c.doubt stands);
         settles = λ c known at sure none. settles c.doubt sure (sym (doubt_is c known at) ∙ none);
         fault = tt;

@@ -1,11 +1,11 @@
 -- A ranked turn that creates a key of the file.
 use Rattle.std.proofs.Common.{Bool, List, None, Option, Some, [], ap, arith, cond, false, is_some, length, not, refl, set, subst, sym, true, ℕ, ◌++◌, ◌+◌, ◌<◌, ◌^◌, ◌∙◌, ◌∷◌, ◌≡◌, ◌≤◌}
-use Rattle.store_core.proofs.Common.{Agrees, AreHoldings, Attributes, Course, Doubt, Entry, FaultMark, HasNoKey, IsEntry, IsFirstWithoutKey, IsFull, IsKeyOf, IsMaking, IsMaterial, IsPut, IsReady, IsSince, IsSure, IsThereOrNew, Key, KeyFile, KeySlots, Keys, Leads, MayBeKept, NoKey, Open, Opening, Pairs, Plain, Puts, Rose, Service, SlotHasKey, StandsFor, StandsForKeys, Storage, Store, Stored, Told, Writing, bytes_of, counted, created, doubt_after, doubt_by, doubt_unmade, durable_keys, false≢true, full_slot, has_secure_element, is_opaque, is_persistent_key, is_volatile, kept, key_changed, last_counts, new_id, new_key, outcome_of, recorded, replay, serve, settled_slots, stored}
+use Rattle.store_core.proofs.Common.{Agrees, AreHoldings, Attributes, Course, Doubt, Entry, FaultMark, HasNoKey, IsEntry, IsFirstWithoutKey, IsFull, IsKeyOf, IsMaking, IsMaterial, IsPut, IsAboutToCreate, IsSince, IsSure, IsThereOrNew, Key, KeyFile, KeySlots, Keys, Leads, MayBeKept, NoKey, Open, Opening, Pairs, Plain, Puts, Rose, Service, SlotHasKey, StandsFor, StandsForKeys, Storage, Store, Stored, Told, Writing, bytes_of, counted, created, doubt_after, doubt_by, doubt_unmade, durable_keys, false≢true, full_slot, has_secure_element, is_opaque, is_persistent_key, is_volatile, kept, key_changed, last_counts, new_id, new_key, outcome_of, recorded, replay, serve, settled_states, stored}
 use Rattle.disk_face.specs.declared.Disk as Disk
 use Rattle.driver_dispatch.specs.declared.devices.Devices as Devices
 use Rattle.admission.specs.declared.rules.Admission as Admission
 use Rattle.std.specs.FinMap as map
-use Rattle.key_cells.specs.declared.slot.Slot as cell
+use Rattle.key_cells.specs.declared.state.CellState as cell
 use Rattle.persistent_keys.specs.declared.file.MakeFault.TheVariants.{Disk}
 use Rattle.store_model.specs.Store as model
 use Rattle.store_core.proofs.Holding.{same_device}
@@ -18,12 +18,12 @@ use Rattle.store_core.proofs.Makes.{IsMakingAt, makes, marked_counts, doubted, c
 
 module _ {D A C : Type 0} {disks : Disk.Ghosts D} {elements : Devices.Ghosts A} {admits : Admission.Ghosts C}
     {old : Store D A C} {caller : ℕ} {a : Attributes} {source : Option ℕ} {start : Service} {opening : Opening} {h : List Entry} {all : List Pairs} {e : Entry}
-    (r : IsReady disks elements admits old caller a source start opening h all e) where
+    (r : IsAboutToCreate disks elements admits old caller a source start opening h all e) where
   abbrev m : model.Store
   m = r.holds.model
 
-  abbrev cells : List cell.Slot
-  cells = old.file.cells.slots.items
+  abbrev cells : List cell.CellState
+  cells = old.file.cells.states.items
 
   abbrev disk : D
   disk = old.file.cells.disk
@@ -95,14 +95,14 @@ module _ {D A C : Type 0} {disks : Disk.Ghosts D} {elements : Devices.Ghosts A} 
           (local_fills m caller a r.bytes first last r.holds.sound ready_may local)))
 
       abbrev Leading : Keys → Doubt → Keys → Doubt → Type 0
-      Leading keys doubt keys' doubt' = Leads disks disk file.cells.disk cells file.cells.slots.items keys doubt keys' doubt'
+      Leading keys doubt keys' doubt' = Leads disks disk file.cells.disk cells file.cells.states.items keys doubt keys' doubt'
 
       -- what the file makes of a new key
       pub record IsFiled : Type 0 where
         pub c : ℕ
         pub without : IsFirstWithoutKey cells c
-        pub placed : file.cells.slots.items ≡ set (settled_slots cells) c (Open a.id.0 number)
-        pub sized : length file.cells.slots.items ≡ 512
+        pub placed : file.cells.states.items ≡ set (settled_states cells) c (Open a.id.0 number)
+        pub sized : length file.cells.states.items ≡ 512
         pub tells : is_some (disks.contents file.cells.disk) ≡ is_some (disks.contents disk)
         pub leads : (keys keys' : Keys) (doubt : Doubt) → StandsForKeys disks disk cells keys doubt → IsPut keys keys' a.id.0 (Some (stored number a (bytes_of old.buffer))) → Leading keys doubt keys' []
 
@@ -127,17 +127,17 @@ module _ {D A C : Type 0} {disks : Disk.Ghosts D} {elements : Devices.Ghosts A} 
         live = λ c le. as_many_live m caller a r.bytes first last r.holds.sound ready_may persistent c ∙ r.holds.live c le;
         kept = one_more_kept m caller a r.bytes first last r.holds.sound ready_may persistent ∙ ap (λ n. n + 1) r.holds.kept;
         slots = agrees;
-        directory = directory_placed m caller a r.bytes first last r.holds.sound ready_may cells file.cells.slots.items f.c persistent r.holds.directory f.without f.sized
-            (f.placed ∙ ap (λ n. set (settled_slots cells) f.c (Open a.id.0 n)) number_is);
+        directory = directory_placed m caller a r.bytes first last r.holds.sound ready_may cells file.cells.states.items f.c persistent r.holds.directory f.without f.sized
+            (f.placed ∙ ap (λ n. set (settled_states cells) f.c (Open a.id.0 n)) number_is);
         device = device_same m caller a r.bytes first last r.holds.sound ready_may (elements.keys old.devices) local r.holds.device;
         tells = f.tells;
       }) (λ doubt stands. subst (λ b. Leading (durable_keys m) doubt (durable_keys after) (cond b doubt [])) (sym persistent) (f.leads (durable_keys m) (durable_keys after) doubt stands put_stated))
-          (λ doubt sure none. set_sure cells file.cells.slots.items f.c (Open a.id.0 number) refl f.placed) is
+          (λ doubt sure none. set_sure cells file.cells.states.items f.c (Open a.id.0 number) refl f.placed) is
 
       -- what the file makes of one that it failed to make
       pub record IsUnfiled (closed_first : Bool) : Type 0 where
-        pub settled : settled_slots file.cells.slots.items ≡ settled_slots cells
-        pub sized : length file.cells.slots.items ≡ 512
+        pub settled : settled_states file.cells.states.items ≡ settled_states cells
+        pub sized : length file.cells.states.items ≡ 512
         pub tells : is_some (disks.contents file.cells.disk) ≡ is_some (disks.contents disk)
         pub leads : (keys : Keys) (doubt : Doubt) → StandsForKeys disks disk cells keys doubt → Leading keys doubt keys (doubt_unmade (Disk closed_first) a (bytes_of old.buffer) doubt)
         pub unclosed : closed_first ≡ false → IsSure cells → ⊥
@@ -153,7 +153,7 @@ module _ {D A C : Type 0} {disks : Disk.Ghosts D} {elements : Devices.Ghosts A} 
           (same_device (elements.keys old.devices) m r.holds.device)
           (rose_since (last_counts opening.counts h).faults (disks.faults disk) e.faults since.faults_since (subst (Rose (disks.faults disk)) (sym is.disk_faults) f.rose))
           (λ service known at. is_persistent_changed service known at)
-          file (directory_settled cells file.cells.slots.items m f.sized f.settled r.holds.directory) f.tells
+          file (directory_settled cells file.cells.states.items m f.sized f.settled r.holds.directory) f.tells
           (λ c known at stands. subst (Leading (durable_keys m) c.doubt (durable_keys m)) (sym (doubt_is c known at)) (f.leads (durable_keys m) c.doubt stands))
           (λ c known at sure none. absurd (in_doubt closed_first c.doubt f.unclosed sure (sym (doubt_is c known at) ∙ none))) is).0
         where

@@ -1,6 +1,6 @@
 -- A ranked turn that creates a volatile key, in memory or in the device.
 use Rattle.std.proofs.Common.{IfSome, List, None, Option, Some, [], ap, arith, cond, false, length, refl, slice_index, slice_set, subst, sym, true, ℕ, ◌++◌, ◌+◌, ◌<◌, ◌^◌, ◌||◌, ◌∙◌, ◌∷◌, ◌≡◌, ◌≤◌, ◌⊎◌}
-use Rattle.store_core.proofs.Common.{Agrees, AreHoldings, Attributes, Buffer, Course, Doubt, Entry, FaultMark, Hardware, HeldKey, HeldKeys, HoldsHandle, HoldsKeys, IsEntry, IsMaking, IsMaterial, IsReady, IsSince, IsSomeKey, IsThereOrNew, Key, KeySlots, Lacks, Leads, MayBeKept, NoKey, Opening, Pairs, Plain, Puts, Rose, Service, SlotHasKey, StandsFor, Store, Told, asks_device, bytes_of, created, doubt_after, durable_keys, first_volatile, full_slot, has_element, has_secure_element, identified, is_key_type, is_opaque, is_opaque_key, is_volatile, key_changed, last_counts, new_id, new_key, permits_size, replay, serve, stays, stored, with_copy, with_held_key, with_key_or_same}
+use Rattle.store_core.proofs.Common.{Agrees, AreHoldings, Attributes, Buffer, Course, Doubt, Entry, FaultMark, Hardware, HeldKey, HeldKeys, HoldsHandle, HoldsKeys, IsEntry, IsMaking, IsMaterial, IsAboutToCreate, IsSince, IsSomeKey, IsThereOrNew, Key, KeySlots, Lacks, Leads, MayBeKept, NoKey, Opening, Pairs, Plain, Puts, Rose, Service, SlotHasKey, StandsFor, Store, Told, asks_device, bytes_of, created, doubt_after, durable_keys, first_volatile, full_slot, has_element, has_secure_element, identified, is_key_type, is_opaque, is_opaque_key, is_volatile, key_changed, last_counts, new_id, new_key, permits_size, replay, serve, stays, stored, with_copy, with_held_key, with_key_or_same}
 use Rattle.disk_face.specs.declared.Disk as Disk
 use Rattle.driver_dispatch.specs.declared.devices.Devices as Devices
 use Rattle.admission.specs.declared.rules.Admission as Admission
@@ -18,7 +18,7 @@ use Rattle.store_core.proofs.MakesKept.{ready_may, in_buffer}
 
 module _ {D A C : Type 0} {disks : Disk.Ghosts D} {elements : Devices.Ghosts A} {admits : Admission.Ghosts C}
     {old : Store D A C} {caller : ℕ} {a : Attributes} {source : Option ℕ} {start : Service} {opening : Opening} {h : List Entry} {all : List Pairs} {e : Entry}
-    (r : IsReady disks elements admits old caller a source start opening h all e) (first : 1 ≤ caller) (last : caller ≤ 16) (volatile : is_volatile a ≡ true) where
+    (r : IsAboutToCreate disks elements admits old caller a source start opening h all e) (first : 1 ≤ caller) (last : caller ≤ 16) (volatile : is_volatile a ≡ true) where
   abbrev m : model.Store
   m = r.holds.model
 
@@ -140,7 +140,7 @@ module _ {D A C : Type 0} {disks : Disk.Ghosts D} {elements : Devices.Ghosts A} 
     is_making k = record { leaves = making.leaves k; answers = making.answers k }
 
     abbrev Leading : Doubt → model.Store → Doubt → Type 0
-    Leading doubt m' doubt' = Leads disks disk disk old.file.cells.slots.items old.file.cells.slots.items (durable_keys m) doubt (durable_keys m') doubt'
+    Leading doubt m' doubt' = Leads disks disk disk old.file.cells.states.items old.file.cells.states.items (durable_keys m) doubt (durable_keys m') doubt'
 
     abbrev pub with_volatile : Store D A C
     with_volatile = record old {
@@ -161,11 +161,11 @@ module _ {D A C : Type 0} {disks : Disk.Ghosts D} {elements : Devices.Ghosts A} 
       live = live_here m caller a r.bytes first last r.holds.sound may volatile old.live sized r.holds.live;
       kept = as_many_kept m caller a r.bytes first last r.holds.sound may volatile ∙ r.holds.kept;
       slots = agrees;
-      directory = directory_same m caller a r.bytes first last r.holds.sound may old.file.cells.slots.items volatile r.holds.directory;
+      directory = directory_same m caller a r.bytes first last r.holds.sound may old.file.cells.states.items volatile r.holds.directory;
       device = device;
       tells = refl;
     }) (λ doubt stands. subst (λ b. Leading doubt after (cond b doubt [])) (sym volatile)
-        (stays disks disk old.file.cells.slots.items (durable_keys m) (durable_keys after) doubt (volatile_kept m caller a r.bytes first last r.holds.sound may volatile) stands))
+        (stays disks disk old.file.cells.states.items (durable_keys m) (durable_keys after) doubt (volatile_kept m caller a r.bytes first last r.holds.sound may volatile) stands))
         (λ doubt sure none. sure (subst (λ b. cond b doubt [] ≡ []) volatile none)) is
 
     -- a key that no device is to hold
@@ -191,7 +191,7 @@ module _ {D A C : Type 0} {disks : Disk.Ghosts D} {elements : Devices.Ghosts A} 
         (subst (λ n. (elements.keys devices ≡ elements.keys old.devices) ⊎ (elements.keys devices ≡ option_map (with_held_key n held_key) (elements.keys old.devices))) number_is changes) r.holds.device)
         (rose_since (last_counts opening.counts h).device_faults (elements.faults old.devices) e.device_faults since.device_faults_since (subst (Rose (elements.faults old.devices)) (sym is.device_faults) rose))
         (λ service known at. ap (λ b. b || asks_device service e.caller e.call) (ap is_opaque_key (changed service known at) ∙ opaque)) old.file r.holds.directory refl
-        (λ c known at stands. subst (Leading c.doubt m) (sym (doubt_is c known at)) (stays disks disk old.file.cells.slots.items (durable_keys m) (durable_keys m) c.doubt (λ q. refl) stands))
+        (λ c known at stands. subst (Leading c.doubt m) (sym (doubt_is c known at)) (stays disks disk old.file.cells.states.items (durable_keys m) (durable_keys m) c.doubt (λ q. refl) stands))
         (λ c known at sure none. sure (sym (doubt_is c known at) ∙ none)) is).0
       where
         changed : (service : Service) → IsMakingAt e caller a r.bytes service → m ≡ service.store → key_changed service e.caller e.call ≡ Some own

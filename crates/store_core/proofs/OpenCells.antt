@@ -1,23 +1,23 @@
 -- The open cells of a directory by their numbers, and the keys in them.
 use Rattle.std.proofs.Common.{Bool, IfSome, List, Option, Some, [], ap, arith, cond, count_by, eq-eqb, false, length, refl, slice_get, subst, suc, sym, take, true, zero, ℕ, ⊎_elim, ◌++◌, ◌+◌, ◌<◌, ◌∙◌, ◌∷◌, ◌≡◌, ◌≤◌}
-use Rattle.store_core.proofs.Common.{AreOpened, Free, HasOneEach, HoldsKey, IsKeyOf, IsNumbered, Open, OpenedKey, body, cases_eq, cell_slot, count_by_more_no, count_by_more_yes, creation_of_slot, false≢true, has_id, is_open, sum_by-cons}
+use Rattle.store_core.proofs.Common.{AreOpened, Free, HasOneEach, HoldsKey, IsKeyOf, IsNumbered, Open, OpenedKey, body, cases_eq, cell_state, count_by_more_no, count_by_more_yes, creation_of_state, false≢true, has_id, is_open, sum_by-cons}
 use Rattle.std.proofs.lemmas.List.{take_all, length-append}
 use Rattle.std.proofs.lemmas.Option.{slice_get_within}
-use Rattle.key_cells.specs.declared.slot.Slot as cell
+use Rattle.key_cells.specs.declared.state.CellState as cell
 use Rattle.store_core.proofs.FoundMap.{HasEachOnce, AreKept, id_of}
 
 -- THE CELL OF A NUMBER
 
-pub record IsCellOf (slots : List cell.Slot) (n : ℕ) : Type 0 where
+pub record IsCellOf (slots : List cell.CellState) (n : ℕ) : Type 0 where
   pub at : ℕ
   pub within : at < length slots
-  pub opened : is_open (cell_slot slots at) ≡ true
+  pub opened : is_open (cell_state slots at) ≡ true
   pub counted : count_by is_open (take at slots) ≡ n
 
-counts_cons : (s : cell.Slot) (ss : List cell.Slot) → count_by is_open (s ∷ ss) ≡ cond (is_open s) 1 0 + count_by is_open ss
+counts_cons : (s : cell.CellState) (ss : List cell.CellState) → count_by is_open (s ∷ ss) ≡ cond (is_open s) 1 0 + count_by is_open ss
 counts_cons s ss = sum_by-cons (λ x. cond (is_open x) 1 0) s ss
 
-pub cell_of : (slots : List cell.Slot) (n : ℕ) → n < count_by is_open slots → IsCellOf slots n
+pub cell_of : (slots : List cell.CellState) (n : ℕ) → n < count_by is_open slots → IsCellOf slots n
 cell_of [] n lt = absurd (omega arith)
 cell_of (s ∷ ss) n lt = of (cell_of ss) (is_open s) refl n (let c = counts_cons s ss in omega arith)
   where
@@ -30,44 +30,44 @@ cell_of (s ∷ ss) n lt = of (cell_of ss) (is_open s) refl n (let c = counts_con
     of rest false is n lt = subst (λ (x : ℕ). IsCellOf (s ∷ ss) x) (omega arith) (later false is n (rest n (omega arith)))
 
 -- an open slot has an identifier and a number
-pub record IsOpenSlot (slot : cell.Slot) : Type 0 where
+pub record IsOpenSlot (slot : cell.CellState) : Type 0 where
   pub id : ℕ
   pub number : ℕ
   pub is : slot ≡ Open id number
 
-pub open_slot : (slot : cell.Slot) → is_open slot ≡ true → IsOpenSlot slot
+pub open_slot : (slot : cell.CellState) → is_open slot ≡ true → IsOpenSlot slot
 open_slot (Open id number) o = record { id = id; number = number; is = refl }
 open_slot slot o = absurd (false≢true o)
 
-pub has_own : (slot : cell.Slot) (id number : ℕ) → slot ≡ Open id number → has_id id slot ≡ true
+pub has_own : (slot : cell.CellState) (id number : ℕ) → slot ≡ Open id number → has_id id slot ≡ true
 has_own slot id number is = ap (has_id id) is ∙ eq-eqb id id refl
 
 -- a number is that of an open cell
-pub number_counts : (slots : List cell.Slot) → IsNumbered 512 slots → (c id number : ℕ) → c < 512 → cell_slot slots c ≡ Open id number → number ≡ count_by is_open (take c slots)
-number_counts slots numbered c id number lt is = sym (ap creation_of_slot is) ∙ numbered c lt (ap is_open is)
+pub number_counts : (slots : List cell.CellState) → IsNumbered 512 slots → (c id number : ℕ) → c < 512 → cell_state slots c ≡ Open id number → number ≡ count_by is_open (take c slots)
+number_counts slots numbered c id number lt is = sym (ap creation_of_state is) ∙ numbered c lt (ap is_open is)
 
 -- THE KEYS IN THEM
 
 -- a found key has a cell, under its number
-pub record IsPlaced (told : Option (List ℕ)) (slots : List cell.Slot) (n : ℕ) (key : OpenedKey) : Type 0 where
+pub record IsPlaced (told : Option (List ℕ)) (slots : List cell.CellState) (n : ℕ) (key : OpenedKey) : Type 0 where
   pub at : ℕ
   pub within : at < 512
-  pub slot : cell_slot slots at ≡ Open (id_of key) n
+  pub slot : cell_state slots at ≡ Open (id_of key) n
   pub kept : IsKeyOf key.attributes key.bytes
   pub holds : IfSome told (λ image. HoldsKey key.attributes key.bytes (body at image))
 
-module _ (told : Option (List ℕ)) (slots : List cell.Slot) (found : List OpenedKey) (sized : length slots ≡ 512) (numbered : IsNumbered 512 slots) (are : AreOpened told slots found) where
+module _ (told : Option (List ℕ)) (slots : List cell.CellState) (found : List OpenedKey) (sized : length slots ≡ 512) (numbered : IsNumbered 512 slots) (are : AreOpened told slots found) where
   pub placed : (n : ℕ) (key : OpenedKey) → slice_get found n ≡ Some key → IsPlaced told slots n key
   placed n key e =
       let within : n < length found = slice_get_within found n key e in
       let here = cell_of slots n (let count = are.count in omega arith) in
       let lt : here.at < 512 = omega (arith, here.within) in
-      let o = open_slot (cell_slot slots here.at) here.opened in
+      let o = open_slot (cell_state slots here.at) here.opened in
       let number : o.number ≡ n = number_counts slots numbered here.at o.id o.number lt o.is ∙ here.counted in
       let k = are.each here.at o.id o.number lt o.is in
       let there : slice_get found n ≡ Some k.0 = ap (slice_get found) (sym number) ∙ k.1 in
       let same : k.0 ≡ key = (let both : Some k.0 ≡ Some key = sym there ∙ e in cc) in
-      let slot : cell_slot slots here.at ≡ Open (id_of k.0) n = o.is ∙ ap (λ (x : ℕ). Open x o.number) (sym k.2) ∙ ap (λ (x : ℕ). Open (id_of k.0) x) number in
+      let slot : cell_state slots here.at ≡ Open (id_of k.0) n = o.is ∙ ap (λ (x : ℕ). Open x o.number) (sym k.2) ∙ ap (λ (x : ℕ). Open (id_of k.0) x) number in
       subst (λ (x : OpenedKey). IsPlaced told slots n x) same (record { at = here.at; within = lt; slot = slot; kept = k.3; holds = k.4 })
 
   pub are_kept : AreKept found
@@ -78,8 +78,8 @@ module _ (told : Option (List ℕ)) (slots : List cell.Slot) (found : List Opene
     one = λ i j key other e f same.
         let p = placed i key e in
         let q = placed j other f in
-        let here : p.at ≡ q.at = one (id_of key) p.at q.at p.within q.within (has_own _ (id_of key) i p.slot) (ap (λ (x : ℕ). has_id x (cell_slot slots q.at)) same ∙ has_own _ (id_of other) j q.slot) in
-        sym (ap creation_of_slot p.slot) ∙ (ap (λ (c : ℕ). creation_of_slot (cell_slot slots c)) here ∙ ap creation_of_slot q.slot);
+        let here : p.at ≡ q.at = one (id_of key) p.at q.at p.within q.within (has_own _ (id_of key) i p.slot) (ap (λ (x : ℕ). has_id x (cell_state slots q.at)) same ∙ has_own _ (id_of other) j q.slot) in
+        sym (ap creation_of_state p.slot) ∙ (ap (λ (c : ℕ). creation_of_state (cell_state slots c)) here ∙ ap creation_of_state q.slot);
   }
 
 -- KEYS FOR THEM
@@ -95,10 +95,10 @@ pub record HasCellKey (told : Option (List ℕ)) (c id : ℕ) : Type 0 where
   pub is : IsCellKey told c id key
 
 -- the keys of the first so many cells
-record FoundBelow (told : Option (List ℕ)) (slots : List cell.Slot) (count : ℕ) : Type 0 where
+record FoundBelow (told : Option (List ℕ)) (slots : List cell.CellState) (count : ℕ) : Type 0 where
   found : List OpenedKey
   counts : length found ≡ count_by is_open (take count slots)
-  each : (c id number : ℕ) → c < count → cell_slot slots c ≡ Open id number → (key : OpenedKey) × (slice_get found number ≡ Some key) × IsCellKey told c id key
+  each : (c id number : ℕ) → c < count → cell_state slots c ≡ Open id number → (key : OpenedKey) × (slice_get found number ≡ Some key) × IsCellKey told c id key
 
 in_front : (xs ys : List OpenedKey) (i : ℕ) (key : OpenedKey) → slice_get xs i ≡ Some key → slice_get (xs ++ ys) i ≡ Some key
 in_front [] ys i key e = absurd (cc)
@@ -109,10 +109,10 @@ at_end : (xs : List OpenedKey) (key : OpenedKey) → slice_get (xs ++ key ∷ []
 at_end [] key = refl
 at_end (x ∷ xs) key = at_end xs key
 
-module _ (told : Option (List ℕ)) (slots : List cell.Slot) (sized : length slots ≡ 512) (numbered : IsNumbered 512 slots) (there : (c id number : ℕ) → c < 512 → cell_slot slots c ≡ Open id number → HasCellKey told c id) where
-  next : (count : ℕ) → count < 512 → FoundBelow told slots count → (b : Bool) → is_open (cell_slot slots count) ≡ b → FoundBelow told slots (count + 1)
+module _ (told : Option (List ℕ)) (slots : List cell.CellState) (sized : length slots ≡ 512) (numbered : IsNumbered 512 slots) (there : (c id number : ℕ) → c < 512 → cell_state slots c ≡ Open id number → HasCellKey told c id) where
+  next : (count : ℕ) → count < 512 → FoundBelow told slots count → (b : Bool) → is_open (cell_state slots count) ≡ b → FoundBelow told slots (count + 1)
   next count lt below true is =
-      let o = open_slot (cell_slot slots count) is in
+      let o = open_slot (cell_state slots count) is in
       let has = there count o.id o.number lt o.is in
       let number : o.number ≡ length below.found = number_counts slots numbered count o.id o.number lt o.is ∙ sym below.counts in
       record {
@@ -120,7 +120,7 @@ module _ (told : Option (List ℕ)) (slots : List cell.Slot) (sized : length slo
         counts = length-append below.found (has.key ∷ []) ∙ (ap (λ (x : ℕ). x + 1) below.counts ∙ sym (count_by_more_yes is_open slots count Free (omega arith) is));
         each = λ c id n less e. ⊎_elim
             (λ same.
-            let here : Open o.id o.number ≡ Open id n = sym o.is ∙ (ap (cell_slot slots) (sym same) ∙ e) in
+            let here : Open o.id o.number ≡ Open id n = sym o.is ∙ (ap (cell_state slots) (sym same) ∙ e) in
             let ids : o.id ≡ id = cc in
             let numbers : o.number ≡ n = cc in (
               has.key,
@@ -134,7 +134,7 @@ module _ (told : Option (List ℕ)) (slots : List cell.Slot) (sized : length slo
     found = below.found;
     counts = below.counts ∙ sym (count_by_more_no is_open slots count Free (omega arith) is);
     each = λ c id n less e. ⊎_elim
-        (λ same. absurd (false≢true (sym is ∙ (ap (λ (x : ℕ). is_open (cell_slot slots x)) (sym same) ∙ ap is_open e))))
+        (λ same. absurd (false≢true (sym is ∙ (ap (λ (x : ℕ). is_open (cell_state slots x)) (sym same) ∙ ap is_open e))))
         (λ differs. below.each c id n (omega (arith, less, differs)) e)
         (cases_eq c count);
   }
@@ -142,7 +142,7 @@ module _ (told : Option (List ℕ)) (slots : List cell.Slot) (sized : length slo
   found_below : (count : ℕ) → count ≤ 512 → FoundBelow told slots count
   found_below zero le = record { found = []; counts = refl; each = λ c id n lt e. absurd (omega arith) }
   found_below (suc count) le =
-      subst (λ (x : ℕ). FoundBelow told slots x) (omega arith) (next count (omega arith) (found_below count (omega arith)) (is_open (cell_slot slots count)) refl)
+      subst (λ (x : ℕ). FoundBelow told slots x) (omega arith) (next count (omega arith) (found_below count (omega arith)) (is_open (cell_state slots count)) refl)
 
   -- there are keys that were opened
   pub some_opened : (found : List OpenedKey) × AreOpened told slots found

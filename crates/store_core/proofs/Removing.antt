@@ -1,12 +1,12 @@
 -- A store of which one key is removed.
 use Rattle.std.proofs.Common.{ne_eqb, Bool, List, None, Option, Some, ap, arith, cond, eq-eqb, false, inl, inr, length, refl, set, subst, sym, true, ℕ, ◌+◌, ◌<◌, ◌==◌, ◌∙◌, ◌≡◌, ◌≢◌, ◌⊎◌}
-use Rattle.store_core.proofs.Common.{Free, HeldKey, HeldKeys, HoldsHandle, HoldsKeys, IsDirectory, IsPut, IsSomeKey, IsSoundStore, Key, KeyMap, Lacks, Open, Puts, Stored, cases_eq, cases_lt, cell_slot, destroyed, durable_keys, false≢true, get_or-map, get_or_past, held_key, is_volatile, kept, left, len_kept-insert, length-map, nat_cmp_total, settled_slot, settled_slots, stored, taken, unsigned_tied, without_key}
+use Rattle.store_core.proofs.Common.{Free, HeldKey, HeldKeys, HoldsHandle, HoldsKeys, IsDirectory, IsPut, IsSomeKey, IsSoundStore, Key, KeyMap, Lacks, Open, Puts, Stored, cases_eq, cases_lt, cell_state, destroyed, durable_keys, false≢true, get_or-map, get_or_past, held_key, is_volatile, kept, left, len_kept-insert, length-map, nat_cmp_total, settled_state, settled_states, stored, taken, unsigned_tied, without_key}
 use Rattle.std.proofs.lemmas.Bool.{eqb-true}
 use Rattle.std.proofs.lemmas.Option.{none-some, same_Some}
 use Rattle.std.proofs.lemmas.List.{get_or-set_same, get_or-set_other}
 use Rattle.std.specs.Option.{option_map}
 use Rattle.std.specs.FinMap as map
-use Rattle.key_cells.specs.declared.slot.Slot as cell
+use Rattle.key_cells.specs.declared.state.CellState as cell
 use Rattle.store_model.specs.Store as model
 use Rattle.store_core.proofs.Kept.{HasCellKey}
 use Rattle.store_core.proofs.Replaced.{back_again}
@@ -28,48 +28,48 @@ nothing_removed keys id none = map.same_map nat_cmp_total map.nat_cmp-IsAntisymm
 
 -- THE DIRECTORY
 
-pub settled_opens : (slot : cell.Slot) (id number : ℕ) → settled_slot slot ≡ Open id number → slot ≡ Open id number
+pub settled_opens : (slot : cell.CellState) (id number : ℕ) → settled_state slot ≡ Open id number → slot ≡ Open id number
 settled_opens (Open own creation) id number is = is
 settled_opens slot id number is = cc
 
-pub settled_at : (slots : List cell.Slot) (c : ℕ) → cell_slot (settled_slots slots) c ≡ settled_slot (cell_slot slots c)
+pub settled_at : (slots : List cell.CellState) (c : ℕ) → cell_state (settled_states slots) c ≡ settled_state (cell_state slots c)
 settled_at slots c = elim (cases_lt c (length slots)) [
-  | inl lt ↦ get_or-map settled_slot slots c Free Free lt
-  | inr past ↦ get_or_past (settled_slots slots) c Free (omega (arith, past, length-map slots settled_slot)) ∙ sym (ap settled_slot (get_or_past slots c Free past))
+  | inl lt ↦ get_or-map settled_state slots c Free Free lt
+  | inr past ↦ get_or_past (settled_states slots) c Free (omega (arith, past, length-map slots settled_state)) ∙ sym (ap settled_state (get_or_past slots c Free past))
 ]
 
 -- a directory that differs in cells in doubt alone has the same keys
-pub directory_settled : (slots slots' : List cell.Slot) (m : model.Store) → length slots' ≡ 512 → settled_slots slots' ≡ settled_slots slots → IsDirectory slots m → IsDirectory slots' m
+pub directory_settled : (slots slots' : List cell.CellState) (m : model.Store) → length slots' ≡ 512 → settled_states slots' ≡ settled_states slots → IsDirectory slots m → IsDirectory slots' m
 directory_settled slots slots' m sized same d = record {
   sized = sized;
   there = λ q k is lasts. let c = d.there q k is lasts in (c.0, c.1, opens slots slots' c.0 q k.number same c.2);
   only = λ c q n lt at. d.only c q n lt (opens slots' slots c q n (sym same) at);
   one = λ c other q n another lt less at also. d.one c other q n another lt less (opens slots' slots c q n (sym same) at) (opens slots' slots other q another (sym same) also);
 } where
-  opens : (before now : List cell.Slot) (c q n : ℕ) → settled_slots now ≡ settled_slots before → cell_slot before c ≡ Open q n → cell_slot now c ≡ Open q n
-  opens before now c q n same at = settled_opens (cell_slot now c) q n (sym (settled_at now c) ∙ (ap (λ (l : List cell.Slot). cell_slot l c) same ∙ (settled_at before c ∙ ap settled_slot at)))
+  opens : (before now : List cell.CellState) (c q n : ℕ) → settled_states now ≡ settled_states before → cell_state before c ≡ Open q n → cell_state now c ≡ Open q n
+  opens before now c q n same at = settled_opens (cell_state now c) q n (sym (settled_at now c) ∙ (ap (λ (l : List cell.CellState). cell_state l c) same ∙ (settled_at before c ∙ ap settled_state at)))
 
 -- a cell is empty, and the others have the keys that they had
-pub record IsEmptied (slots slots' : List cell.Slot) (c : ℕ) : Type 0 where
+pub record IsEmptied (slots slots' : List cell.CellState) (c : ℕ) : Type 0 where
   pub sized : length slots' ≡ 512
   pub inside : c < 512
-  pub settled : settled_slots slots' ≡ set (settled_slots slots) c Free
+  pub settled : settled_states slots' ≡ set (settled_states slots) c Free
 
-module _ (slots slots' : List cell.Slot) (c : ℕ) (sized : length slots ≡ 512) (e : IsEmptied slots slots' c) where
-  still_open : (other id number : ℕ) → other ≢ c → cell_slot slots other ≡ Open id number → cell_slot slots' other ≡ Open id number
-  still_open other id number differ is = settled_opens (cell_slot slots' other) id number
-      (sym (settled_at slots' other) ∙ (ap (λ (l : List cell.Slot). cell_slot l other) e.settled ∙ (get_or-set_other (settled_slots slots) c other Free Free differ ∙ (settled_at slots other ∙ ap settled_slot is))))
+module _ (slots slots' : List cell.CellState) (c : ℕ) (sized : length slots ≡ 512) (e : IsEmptied slots slots' c) where
+  still_open : (other id number : ℕ) → other ≢ c → cell_state slots other ≡ Open id number → cell_state slots' other ≡ Open id number
+  still_open other id number differ is = settled_opens (cell_state slots' other) id number
+      (sym (settled_at slots' other) ∙ (ap (λ (l : List cell.CellState). cell_state l other) e.settled ∙ (get_or-set_other (settled_states slots) c other Free Free differ ∙ (settled_at slots other ∙ ap settled_state is))))
 
-  was_open : (other id number : ℕ) → cell_slot slots' other ≡ Open id number → (other ≢ c) × (cell_slot slots other ≡ Open id number)
+  was_open : (other id number : ℕ) → cell_state slots' other ≡ Open id number → (other ≢ c) × (cell_state slots other ≡ Open id number)
   was_open other id number is = elim (cases_eq other c) [
     | inl same ↦ absurd (not_open id number (sym (at_c same) ∙ now))
-    | inr differ ↦ (differ, settled_opens (cell_slot slots other) id number (sym (settled_at slots other) ∙ (sym (get_or-set_other (settled_slots slots) c other Free Free differ) ∙ now)))
+    | inr differ ↦ (differ, settled_opens (cell_state slots other) id number (sym (settled_at slots other) ∙ (sym (get_or-set_other (settled_states slots) c other Free Free differ) ∙ now)))
   ] where
-    now : cell_slot (set (settled_slots slots) c Free) other ≡ Open id number
-    now = sym (ap (λ (l : List cell.Slot). cell_slot l other) e.settled) ∙ (settled_at slots' other ∙ ap settled_slot is)
+    now : cell_state (set (settled_states slots) c Free) other ≡ Open id number
+    now = sym (ap (λ (l : List cell.CellState). cell_state l other) e.settled) ∙ (settled_at slots' other ∙ ap settled_state is)
 
-    at_c : other ≡ c → cell_slot (set (settled_slots slots) c Free) other ≡ Free
-    at_c same = let lt = e.inside in ap (cell_slot (set (settled_slots slots) c Free)) same ∙ get_or-set_same (settled_slots slots) c Free Free (omega (arith, length-map slots settled_slot))
+    at_c : other ≡ c → cell_state (set (settled_states slots) c Free) other ≡ Free
+    at_c same = let lt = e.inside in ap (cell_state (set (settled_states slots) c Free)) same ∙ get_or-set_same (settled_states slots) c Free Free (omega (arith, length-map slots settled_state))
 
     not_open : (id number : ℕ) → Free ≡ Open id number → ⊥
     not_open id number is = cc
@@ -114,18 +114,18 @@ module _ (m : model.Store) (id : ℕ) where
       same false o is = refl
 
     -- the directory without its cell
-    pub directory_emptied : (slots slots' : List cell.Slot) (c number : ℕ) → IsEmptied slots slots' c → cell_slot slots c ≡ Open id number → IsDirectory slots m → IsDirectory slots' gone
+    pub directory_emptied : (slots slots' : List cell.CellState) (c number : ℕ) → IsEmptied slots slots' c → cell_state slots c ≡ Open id number → IsDirectory slots m → IsDirectory slots' gone
     directory_emptied slots slots' c number e at d = record {
       sized = e.sized;
       there = λ q k is lasts.
           let old = was_there q k is in
           let f = d.there q k old.1 lasts in
-          (f.0, f.1, still_open slots slots' c d.sized e f.0 q k.number (λ same. old.0 (one_name q k.number id number (sym f.2 ∙ (ap (cell_slot slots) same ∙ at)))) f.2);
+          (f.0, f.1, still_open slots slots' c d.sized e f.0 q k.number (λ same. old.0 (one_name q k.number id number (sym f.2 ∙ (ap (cell_state slots) same ∙ at)))) f.2);
       only = λ x q n lt is.
           let old = was_open slots slots' c d.sized e x q n is in
           let k = d.only x q n lt old.1 in
           let inside = e.inside in
-          (k.0, others_stay q (λ same. old.0 (d.one x c id n number lt inside (subst (λ (i : ℕ). cell_slot slots x ≡ Open i n) same old.1) at)) ∙ k.1, k.2, k.3);
+          (k.0, others_stay q (λ same. old.0 (d.one x c id n number lt inside (subst (λ (i : ℕ). cell_state slots x ≡ Open i n) same old.1) at)) ∙ k.1, k.2, k.3);
       one = λ x other q n another lt less is also.
           d.one x other q n another lt less (was_open slots slots' c d.sized e x q n is).1 (was_open slots slots' c d.sized e other q another also).1;
     } where
@@ -133,7 +133,7 @@ module _ (m : model.Store) (id : ℕ) where
       one_name q n i k is = cc
 
     -- a volatile key has no cell
-    pub directory_stays : (slots : List cell.Slot) → is_volatile key.attributes ≡ true → IsDirectory slots m → IsDirectory slots gone
+    pub directory_stays : (slots : List cell.CellState) → is_volatile key.attributes ≡ true → IsDirectory slots m → IsDirectory slots gone
     directory_stays slots volatile d = record {
       sized = d.sized;
       there = λ q k is lasts. d.there q k (was_there q k is).1 lasts;

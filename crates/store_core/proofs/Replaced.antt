@@ -1,10 +1,10 @@
 -- A store of which one key that is kept in the file has other attributes and bytes.
 use Rattle.std.proofs.Common.{eq-eqb, ne_eqb, Bool, List, None, Option, Some, ap, cond, false, inl, inr, nat_lt, refl, subst, sym, true, ℕ, ◌<◌, ◌==◌, ◌∙◌, ◌≡◌, ◌≢◌, ◌≤◌, ◌⊎◌}
-use Rattle.store_core.proofs.Common.{Agrees, Attributes, HeldKeys, HoldsHandle, HoldsKeys, IsDirectory, IsGone, IsKeyOf, IsSoundKey, IsSoundStore, Key, KeyMap, NoKey, Open, Pairs, Slot, cases_eq, cell_slot, false≢true, holds_its_key, holds_key, is_opaque, is_volatile, is_volatile_of, len_kept-insert, nat_cmp_total, put, slot_at, taken}
+use Rattle.store_core.proofs.Common.{Agrees, Attributes, HeldKeys, HoldsHandle, HoldsKeys, IsDirectory, IsGone, IsKeyOf, IsSoundKey, IsSoundStore, Key, KeyMap, NoKey, Open, Pairs, Slot, cases_eq, cell_state, false≢true, holds_its_key, holds_key, is_opaque, is_volatile, is_volatile_of, len_kept-insert, nat_cmp_total, put, slot_at, taken}
 use Rattle.std.proofs.lemmas.Bool.{eqb-true}
 use Rattle.std.proofs.lemmas.Option.{same_Some}
 use Rattle.std.specs.FinMap as map
-use Rattle.key_cells.specs.declared.slot.Slot as cell
+use Rattle.key_cells.specs.declared.state.CellState as cell
 use Rattle.store_model.specs.Store as model
 use Rattle.store_core.proofs.Kept.{HasCellKey, lasting, local, kept_checked}
 
@@ -91,14 +91,14 @@ module _ (m : model.Store) (id : ℕ) (key : Key) (a : Attributes) (bytes : List
   }
 
   -- the directory has it
-  pub directory_after : (slots : List cell.Slot) → IsDirectory slots m → IsDirectory slots after
+  pub directory_after : (slots : List cell.CellState) → IsDirectory slots m → IsDirectory slots after
   directory_after slots d = record {
     sized = d.sized;
     there = λ q k e lasts. in_cell q k (found_in m id loaded q k e) lasts;
     only = λ c q number lt at. of_cell q number (cases_eq q id) (d.only c q number lt at);
     one = d.one;
   } where
-    in_cell : (q : ℕ) (k : Key) → IsFoundIn m id loaded q k → is_volatile k.attributes ≡ false → (c : ℕ) × (c < 512) × (cell_slot slots c ≡ Open q k.number)
+    in_cell : (q : ℕ) (k : Key) → IsFoundIn m id loaded q k → is_volatile k.attributes ≡ false → (c : ℕ) × (c < 512) × (cell_state slots c ≡ Open q k.number)
     in_cell q k (inl here) lasts = let c = d.there id key there persistent in (c.0, c.1, c.2 ∙ (ap (λ n. Open n key.number) (sym here.0) ∙ ap (λ (x : Key). Open q x.number) here.1))
     in_cell q k (inr old) lasts = d.there q k old.1 lasts
 

@@ -1,13 +1,13 @@
 -- A store that was opened stands for a start, before any call.
 use Rattle.std.proofs.Common.{Bool, IfSome, List, None, Option, Some, [], ap, arith, count_by, false, is_some, length, nat_lt, refl, replicate, slice_get, slice_index, slice_index_or, subst, suc, sym, true, zero, ℕ, ◌+◌, ◌↔◌, ◌∙◌, ◌≡◌, ◌≤◌}
-use Rattle.store_core.proofs.Common.{Agrees, AreFound, AreHoldings, AreOpened, Attributes, HasKey, HasOneEach, HeldKeys, HoldsKeys, IsDirectory, IsHolding, IsNumbered, IsOpened, IsRefused, IsStart, IsVolatileKey, KeepsKeys, Key, KeyFile, Keys, Lacks, Memory, Open, OpenedKey, Opening, Pairs, Service, Settings, Sound, StandsFor, StandsForContents, StandsForKeys, Store, cell_slot, count_by-le-length, durable_keys, empty_ones, empty_slot, false≢true, for_told, found_in, is_opaque, is_open, is_volatile, is_volatile_of, length-replicate, of_volatile, opening_of, service_start, some_weaker, stands_fits, start_of}
+use Rattle.store_core.proofs.Common.{Agrees, AreFound, AreHoldings, AreOpened, Attributes, HasKey, HasOneEach, HeldKeys, HoldsKeys, IsDirectory, IsHolding, IsNumbered, IsOpened, IsOpeningRefused, IsStart, IsVolatileKey, KeepsKeys, Key, KeyFile, Keys, Lacks, Memory, Open, OpenedKey, Opening, Pairs, Service, Settings, Sound, StandsFor, StandsForContents, StandsForKeys, Store, cell_state, count_by-le-length, durable_keys, empty_ones, empty_slot, false≢true, for_told, found_in, is_opaque, is_open, is_volatile, is_volatile_of, length-replicate, of_volatile, opening_of, service_start, some_weaker, stands_fits, start_of}
 use Rattle.std.proofs.lemmas.Bool.{lt-ltb}
 use Rattle.disk_face.specs.declared.Disk as Disk
 use Rattle.driver_dispatch.specs.declared.devices.Devices as Devices
 use Rattle.admission.specs.declared.rules.Admission as Admission
 use Rattle.std.proofs.lemmas.List.Elements.{All-replicate}
 use Rattle.std.specs.FinMap as map
-use Rattle.key_cells.specs.declared.slot.Slot as cell
+use Rattle.key_cells.specs.declared.state.CellState as cell
 use Rattle.key_cells.proofs.Opened.{calm_none, refused_calm}
 use Rattle.persistent_keys.proofs.Founding.{found_stands}
 use Rattle.store_model.specs.Store as model
@@ -33,7 +33,7 @@ none_out callers few = record {
 
 -- KEYS THAT WERE OPENED, AS THE MODEL'S
 
-module _ (told : Option (List ℕ)) (slots : List cell.Slot) (found : List OpenedKey) (settings : Settings) (kept : AreKept found) (once : HasEachOnce found) where
+module _ (told : Option (List ℕ)) (slots : List cell.CellState) (found : List OpenedKey) (settings : Settings) (kept : AreKept found) (once : HasEachOnce found) where
   abbrev first : model.Store
   first = start_of settings found
 
@@ -81,7 +81,7 @@ module _ (told : Option (List ℕ)) (slots : List cell.Slot) (found : List Opene
           let k = are.each c id number lt is in
           let at : map.get first.keys id ≡ Some (numbered (0 + number) k.0) = ap (map.get first.keys) (sym k.2) ∙ at_found 0 found once number k.0 k.1 in
           (numbered (0 + number) k.0, at, lasting k.0.attributes k.0.bytes k.3, omega arith);
-      one = λ c other id number another lt lt' is is'. one id c other lt lt' (has_own (cell_slot slots c) id number is) (has_own (cell_slot slots other) id another is');
+      one = λ c other id number another lt lt' is is'. one id c other lt lt' (has_own (cell_state slots c) id number is) (has_own (cell_state slots other) id another is');
     }
 
     few_found : length found ≤ 512
@@ -98,12 +98,12 @@ module _ {D A C : Type 0} (disks : Disk.Ghosts D) (elements : Devices.Ghosts A) 
 
   -- a store as it is made of a file that was opened
   pub record IsNew (first : D) (store : Store D A C) : Type 0 where
-    pub file : IsOpened disks first store.file.cells.disk store.file.cells.slots.items
+    pub file : IsOpened disks first store.file.cells.disk store.file.cells.states.items
     pub slots : store.slots.table.slots ≡ replicate 384 empty_slot
     pub made : store.made ≡ replicate 17 0
     pub live : store.live ≡ replicate 17 0
-    pub kept : store.kept ≡ count_by is_open store.file.cells.slots.items
-    pub found : store.found ≡ count_by is_open store.file.cells.slots.items
+    pub kept : store.kept ≡ count_by is_open store.file.cells.states.items
+    pub found : store.found ≡ count_by is_open store.file.cells.states.items
     pub ranked : store.ranked ≡ 0
     pub saw_file : store.opened.file.value ≡ store.file
     pub saw_devices : store.opened.devices.value ≡ store.devices
@@ -113,11 +113,11 @@ module _ {D A C : Type 0} (disks : Disk.Ghosts D) (elements : Devices.Ghosts A) 
     abbrev disk : D
     disk = store.file.cells.disk
 
-    abbrev slots : List cell.Slot
-    slots = store.file.cells.slots.items
+    abbrev slots : List cell.CellState
+    slots = store.file.cells.states.items
 
     keys_of : (start : Service) → (s : Start store.opened start) → AreOpened (disks.contents disk) slots s.found
-    keys_of start s = subst (λ (f : KeyFile D). AreOpened (disks.contents f.cells.disk) f.cells.slots.items s.found) new.saw_file s.keys
+    keys_of start s = subst (λ (f : KeyFile D). AreOpened (disks.contents f.cells.disk) f.cells.states.items s.found) new.saw_file s.keys
 
     sounds : IfSome (disks.contents first) (λ image. (read : List ℕ) → disks.may_leave disk read → Sound slots (found_in image) read)
     sounds = some_weaker (disks.contents first) (λ image. StandsForContents disks disk slots (found_in image)) (λ image. (read : List ℕ) → disks.may_leave disk read → Sound slots (found_in image) read) (λ image s. s.each) new.file.stands
@@ -135,7 +135,7 @@ module _ {D A C : Type 0} (disks : Disk.Ghosts D) (elements : Devices.Ghosts A) 
             labels_are = labels_are ∙ ap admits.labels (sym new.saw_rules);
             locations_are = locations_are ∙ ap elements.locations (sym new.saw_devices);
             has_file = has_file;
-            keys = subst (λ (f : KeyFile D). AreOpened (disks.contents f.cells.disk) f.cells.slots.items keys.0) (sym new.saw_file) keys.1;
+            keys = subst (λ (f : KeyFile D). AreOpened (disks.contents f.cells.disk) f.cells.states.items keys.0) (sym new.saw_file) keys.1;
           },
         )
 
@@ -234,6 +234,6 @@ module _ {D A C : Type 0} (disks : Disk.Ghosts D) (elements : Devices.Ghosts A) 
         }
 
   -- an opening that had no memory left the disk as it was
-  pub without_memory : (first : D) → IsRefused disks first first Memory
+  pub without_memory : (first : D) → IsOpeningRefused disks first first Memory
   without_memory first =
       refused_calm disks first first Memory (calm_none disks first) (for_told (disks.contents first) _ (λ image is. tt)) (λ h. absurd h) (λ h. absurd h)

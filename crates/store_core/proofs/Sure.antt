@@ -1,29 +1,29 @@
 -- Directories without a cell in doubt, and what is in the cells of their files.
 use Rattle.std.proofs.Common.{IfSome, List, None, Option, Some, [], ap, arith, inl, inr, is_some, length, refl, set, subst, sym, true, ℕ, ◌<◌, ◌∙◌, ◌∷◌, ◌≡◌, ◌⊎◌}
-use Rattle.store_core.proofs.Common.{Absent, Content, Doubt, Doubtful, Finds, Free, HasKeyOrZeros, HoldsKey, IsFoundIn, IsSure, Keys, Open, Present, Shows, Shut, StandsForKeys, Stored, TellsCell, Unsure, body, cell_slot, closed, content_at, false≢true, gate, get_or-map, get_or-replicate, map-set, opened_gate, settled_slot, settled_slots, stored, zeros}
+use Rattle.store_core.proofs.Common.{Absent, Content, Doubt, Doubtful, Finds, Free, HasKeyOrZeros, HoldsKey, IsFoundIn, IsSure, Keys, Open, Present, Shows, Shut, StandsForKeys, Stored, TellsCell, Unsure, body, cell_state, closed, content_at, false≢true, gate, get_or-map, get_or-replicate, map-set, opened_gate, settled_state, settled_states, stored, zeros}
 use Rattle.disk_face.specs.declared.Disk as Disk
-use Rattle.key_cells.specs.declared.slot.Slot.{Slot}
+use Rattle.key_cells.specs.declared.state.CellState.{CellState}
 use Rattle.key_cells.proofs.Clearing.{all_settled}
 use Rattle.persistent_keys.proofs.Filing.{settled_twice}
 use Rattle.store_core.proofs.Wiped.{shows_free}
 
 -- a slot is set in a directory in which no other is in doubt
-pub set_sure : (slots slots' : List Slot) (c : ℕ) (slot : Slot) → settled_slot slot ≡ slot → slots' ≡ set (settled_slots slots) c slot → IsSure slots'
+pub set_sure : (slots slots' : List CellState) (c : ℕ) (slot : CellState) → settled_state slot ≡ slot → slots' ≡ set (settled_states slots) c slot → IsSure slots'
 set_sure slots slots' c slot sure is = subst IsSure (sym is)
-    (map-set settled_slot (settled_slots slots) c slot ∙ (ap (λ (l : List Slot). set l c (settled_slot slot)) (settled_twice slots) ∙ ap (set (settled_slots slots) c) sure))
+    (map-set settled_state (settled_states slots) c slot ∙ (ap (λ (l : List CellState). set l c (settled_state slot)) (settled_twice slots) ∙ ap (set (settled_states slots) c) sure))
 
 -- an opening leaves none in doubt
-found_cell : (slot : Slot) (g b : List ℕ) → Finds slot g b → slot ≡ settled_slot slot
+found_cell : (slot : CellState) (g b : List ℕ) → Finds slot g b → slot ≡ settled_state slot
 found_cell Free g b is = refl
 found_cell (Open id number) g b is = refl
 found_cell Shut g b is = absurd is
 found_cell Unsure g b is = absurd is
 
-found_sure : (image : List ℕ) (slots : List Slot) → length slots ≡ 512 → IsFoundIn image slots → IsSure slots
-found_sure [] slots sized is = sym (all_settled slots (λ c lt. let free = ap (λ (l : List Slot). cell_slot l c) is ∙ get_or-replicate 512 c Free Free (omega (arith, sized, lt)) in free ∙ sym (ap settled_slot free)))
-found_sure (byte ∷ rest) slots sized is = sym (all_settled slots (λ c lt. found_cell (cell_slot slots c) (gate c (byte ∷ rest)) (body c (byte ∷ rest)) (is.each c (omega (arith, sized, lt)))))
+found_sure : (image : List ℕ) (slots : List CellState) → length slots ≡ 512 → IsFoundIn image slots → IsSure slots
+found_sure [] slots sized is = sym (all_settled slots (λ c lt. let free = ap (λ (l : List CellState). cell_state l c) is ∙ get_or-replicate 512 c Free Free (omega (arith, sized, lt)) in free ∙ sym (ap settled_state free)))
+found_sure (byte ∷ rest) slots sized is = sym (all_settled slots (λ c lt. found_cell (cell_state slots c) (gate c (byte ∷ rest)) (body c (byte ∷ rest)) (is.each c (omega (arith, sized, lt)))))
 
-pub opened_sure : (told : Option (List ℕ)) (slots : List Slot) → length slots ≡ 512 → IfSome told (λ image. IsFoundIn image slots) → is_some told ≡ true → IsSure slots
+pub opened_sure : (told : Option (List ℕ)) (slots : List CellState) → length slots ≡ 512 → IfSome told (λ image. IsFoundIn image slots) → is_some told ≡ true → IsSure slots
 opened_sure None slots sized found tells = absurd (false≢true tells)
 opened_sure (Some image) slots sized found tells = found_sure image slots sized found
 
@@ -31,7 +31,7 @@ opened_sure (Some image) slots sized found tells = found_sure image slots sized 
 abbrev HasKeyOrNothing : Keys → List ℕ → List ℕ → Type 0
 HasKeyOrNothing keys g b = ((id : ℕ) × (key : Stored) × (keys id ≡ Some key) × (g ≡ opened_gate) × HoldsKey key.attributes key.bytes b) ⊎ ((g ≡ closed) × (b ≡ zeros))
 
-sure_cell : (keys : Keys) (doubt : Doubt) (slot : Slot) (content : Content) (g b : List ℕ) → settled_slot slot ≡ slot → Shows slot content g b → TellsCell keys doubt slot content → HasKeyOrNothing keys g b
+sure_cell : (keys : Keys) (doubt : Doubt) (slot : CellState) (content : Content) (g b : List ℕ) → settled_state slot ≡ slot → Shows slot content g b → TellsCell keys doubt slot content → HasKeyOrNothing keys g b
 sure_cell keys doubt Free content g b sure shows tells = inr (shows_free Free content g b refl shows)
 sure_cell keys doubt (Open id number) Absent g b sure shows tells = absurd shows
 sure_cell keys doubt (Open id number) (Present bytes) g b sure shows tells =
@@ -40,9 +40,9 @@ sure_cell keys doubt (Open id number) (Doubtful bytes) g b sure shows tells = ab
 sure_cell keys doubt Shut content g b sure shows tells = cc
 sure_cell keys doubt Unsure content g b sure shows tells = cc
 
-pub sure_cells : {D : Type 0} (disks : Disk.Ghosts D) (disk : D) (slots : List Slot) (keys : Keys) (doubt : Doubt) → StandsForKeys disks disk slots keys doubt → IsSure slots →
+pub sure_cells : {D : Type 0} (disks : Disk.Ghosts D) (disk : D) (slots : List CellState) (keys : Keys) (doubt : Doubt) → StandsForKeys disks disk slots keys doubt → IsSure slots →
     (image : List ℕ) → disks.may_leave disk image → (cell : ℕ) → cell < 512 → HasKeyOrZeros keys cell image
 sure_cells disks disk slots keys doubt s sure image left cell lt =
     let sized = s.filed.sized in
-    let settled : settled_slot (cell_slot slots cell) ≡ cell_slot slots cell = sym (get_or-map settled_slot slots cell Free Free (omega arith)) ∙ ap (λ (l : List Slot). cell_slot l cell) sure in
-    sure_cell keys doubt (cell_slot slots cell) (content_at s.contents cell) (gate cell image) (body cell image) settled ((s.stands.each image left).each cell lt) (s.filed.each cell lt)
+    let settled : settled_state (cell_state slots cell) ≡ cell_state slots cell = sym (get_or-map settled_state slots cell Free Free (omega arith)) ∙ ap (λ (l : List CellState). cell_state l cell) sure in
+    sure_cell keys doubt (cell_state slots cell) (content_at s.contents cell) (gate cell image) (body cell image) settled ((s.stands.each image left).each cell lt) (s.filed.each cell lt)

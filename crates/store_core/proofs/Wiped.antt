@@ -1,14 +1,14 @@
 -- What is wiped: the slots of keys that are gone, and free cells.
 use Rattle.std.proofs.Common.{List, ap, arith, inl, inr, refl, subst, sym, ℕ, ◌+◌, ◌<◌, ◌∙◌, ◌≡◌, ◌⊎◌}
 use Rattle.store_core.proofs.Common.{Absent, Agrees, Content, Doubtful, Free, HasNumber, IsLawfulSlot, Pairs, Present, Shows, Slot, closed, empty_slot, filling_slot, is_full, named, readers_out, slot_at, zeros}
-use Rattle.key_cells.specs.declared.slot.Slot as cell
+use Rattle.key_cells.specs.declared.state.CellState as cell
 use Rattle.slot_states.specs.declared.SlotState.{SlotState}
 use Rattle.slot_states.specs.declared.SlotState.TheVariants.{Empty, Filling, Full, Pending}
 use Rattle.store_model.specs.Store as model
 
 -- a cell that the directory has as free
-pub shows_free : (slot : cell.Slot) (content : Content) (gate body : List ℕ) → slot ≡ Free → Shows slot content gate body → (gate ≡ closed) × (body ≡ zeros)
-shows_free slot content gate body free shows = go content (subst (λ (s : cell.Slot). Shows s content gate body) free shows) where
+pub shows_free : (slot : cell.CellState) (content : Content) (gate body : List ℕ) → slot ≡ Free → Shows slot content gate body → (gate ≡ closed) × (body ≡ zeros)
+shows_free slot content gate body free shows = go content (subst (λ (s : cell.CellState). Shows s content gate body) free shows) where
   go : (c : Content) → Shows Free c gate body → (gate ≡ closed) × (body ≡ zeros)
   go Absent is = is
   go (Present bytes) is = absurd is

@@ -1,13 +1,13 @@
 -- Cells that stay zeros over the calls of a turn.
 use Rattle.std.proofs.Common.{List, None, Option, [], ap, arith, cond, length, refl, set, subst, sym, true, ℕ, ⊎_elim, ◌<◌, ◌==◌, ◌∙◌, ◌∷◌, ◌≡◌}
-use Rattle.store_core.proofs.Common.{FileStaysZeros, Free, HasZeros, IsDirectory, KeyFile, Keys, LeavesZeros, Open, StaysFree, Store, Stored, Within, cell_slot, false≢true, has_id, last_store, length-map, settled_slot, settled_slots, stays, within_both, within_none}
+use Rattle.store_core.proofs.Common.{FileStaysZeros, Free, HasZeros, IsDirectory, KeyFile, Keys, LeavesZeros, Open, StaysFree, Store, Stored, Within, cell_state, false≢true, has_id, last_store, length-map, settled_state, settled_states, stays, within_both, within_none}
 use Rattle.std.proofs.lemmas.Option.{none-some}
 use Rattle.disk_face.specs.declared.Disk as Disk
 use Rattle.driver_dispatch.specs.declared.devices.Devices as Devices
 use Rattle.admission.specs.declared.rules.Admission as Admission
 use Rattle.std.proofs.lemmas.Bool.{eqb-true}
 use Rattle.std.proofs.lemmas.List.{get_or-set_same}
-use Rattle.key_cells.specs.declared.slot.Slot as cell
+use Rattle.key_cells.specs.declared.state.CellState as cell
 use Rattle.persistent_keys.specs.Calls.{KeepsFile}
 use Rattle.std.specs.FinMap as finmap
 use Rattle.store_model.specs.Store as model
@@ -19,37 +19,37 @@ keys_put keys id key = λ other. cond (other == id) key (keys other)
 module _ {D : Type 0} (disks : Disk.Ghosts D) where
   -- no call
   pub uncalled : (file : KeyFile D) → FileStaysZeros disks file file
-  uncalled file = λ keys doubt s. (stays disks file.cells.disk file.cells.slots.items keys keys doubt (λ id. refl) s).zeros
+  uncalled file = λ keys doubt s. (stays disks file.cells.disk file.cells.states.items keys keys doubt (λ id. refl) s).zeros
 
   -- a file that was read, and then changed
-  pub read_first : (old mid new : KeyFile D) → mid.cells.slots ≡ old.cells.slots →
+  pub read_first : (old mid new : KeyFile D) → mid.cells.states ≡ old.cells.states →
       KeepsFile disks old mid →
       FileStaysZeros disks mid new → FileStaysZeros disks old new
   read_first old mid new same keeps then = λ keys doubt s c lt free still.
       let read = keeps keys doubt s in
-      let between : cell_slot mid.cells.slots.items c ≡ Free = ap (λ (d : _). cell_slot d.items c) same ∙ free in
+      let between : cell_state mid.cells.states.items c ≡ Free = ap (λ (d : _). cell_state d.items c) same ∙ free in
       within_both (disks.moment old.cells.disk) (disks.moment mid.cells.disk) (disks.moment new.cells.disk) (disks.left_since old.cells.disk) (disks.left_since mid.cells.disk) (disks.left_since new.cells.disk) (HasZeros c) (HasZeros c) (HasZeros c)
       (read.zeros c lt free between) (then keys doubt read.stands c lt between still) (λ image z. z) (λ image z. z)
 
 -- a cell that has an identifier is open
-open_of : (id : ℕ) (slot : cell.Slot) → has_id id slot ≡ true → (number : ℕ) × (slot ≡ Open id number)
+open_of : (id : ℕ) (slot : cell.CellState) → has_id id slot ≡ true → (number : ℕ) × (slot ≡ Open id number)
 open_of id (Open own number) has = (number, ap (λ (n : ℕ). Open n number) (eqb-true own id has))
 open_of id slot has = absurd (false≢true has)
 
 -- the cells that have a destroyed key's identifier are free
-pub freed : (slots slots' : List cell.Slot) (m : model.Store) (id at : ℕ) → IsDirectory slots m → at < 512 → has_id id (cell_slot slots at) ≡ true → slots' ≡ set (settled_slots slots) at Free →
-    (c : ℕ) → c < 512 → has_id id (cell_slot slots c) ≡ true → cell_slot slots' c ≡ Free
+pub freed : (slots slots' : List cell.CellState) (m : model.Store) (id at : ℕ) → IsDirectory slots m → at < 512 → has_id id (cell_state slots at) ≡ true → slots' ≡ set (settled_states slots) at Free →
+    (c : ℕ) → c < 512 → has_id id (cell_state slots c) ≡ true → cell_state slots' c ≡ Free
 freed slots slots' m id at d within has gone c lt had =
-    let a = open_of id (cell_slot slots at) has in
-    let o = open_of id (cell_slot slots c) had in
+    let a = open_of id (cell_state slots at) has in
+    let o = open_of id (cell_state slots c) had in
     let same : c ≡ at = d.one c at id o.0 a.0 lt within o.1 a.1 in
-    let long : at < length (settled_slots slots) = subst (λ n. at < n) (sym (length-map slots settled_slot ∙ d.sized)) within in
-    ap (λ ss. cell_slot ss c) gone ∙ (ap (cell_slot (set (settled_slots slots) at Free)) same ∙ get_or-set_same (settled_slots slots) at Free Free long)
+    let long : at < length (settled_states slots) = subst (λ n. at < n) (sym (length-map slots settled_state ∙ d.sized)) within in
+    ap (λ ss. cell_state ss c) gone ∙ (ap (cell_state (set (settled_states slots) at Free)) same ∙ get_or-set_same (settled_states slots) at Free Free long)
 
 -- and no cell has an identifier that the model lacks
-pub lacks_cell : (slots : List cell.Slot) (m : model.Store) (id : ℕ) → IsDirectory slots m → finmap.get m.keys id ≡ None → (c : ℕ) → c < 512 → has_id id (cell_slot slots c) ≡ true → ⊥
+pub lacks_cell : (slots : List cell.CellState) (m : model.Store) (id : ℕ) → IsDirectory slots m → finmap.get m.keys id ≡ None → (c : ℕ) → c < 512 → has_id id (cell_state slots c) ≡ true → ⊥
 lacks_cell slots m id d none c lt has =
-    let o = open_of id (cell_slot slots c) has in
+    let o = open_of id (cell_state slots c) has in
     let k = d.only c id o.0 lt o.1 in
     none-some k.0 (sym none ∙ k.1)
 
@@ -65,7 +65,7 @@ module _ {D A C : Type 0} (disks : Disk.Ghosts D) (elements : Devices.Ghosts A) 
   abbrev IsWithin : (first last : Store D A C) → Type 0
   IsWithin first last = Within (disks.moment (disk_of first)) (disks.moment (disk_of last)) (disks.left_since (disk_of first)) (disks.left_since (disk_of last)) (HasZeros cell)
 
-  pub stays_zeros : (store : Store D A C) (turns : List (Store D A C)) → cell_slot store.file.cells.slots.items cell ≡ Free →
+  pub stays_zeros : (store : Store D A C) (turns : List (Store D A C)) → cell_state store.file.cells.states.items cell ≡ Free →
       StaysFree disks elements admits cell store turns → IsWithin store (last_store store turns)
   stays_zeros store [] free turns = within_none (disks.moment (disk_of store)) (disks.left_since (disk_of store)) (HasZeros cell)
   stays_zeros store (next ∷ rest) free turns =

@@ -160,7 +160,7 @@ module _ {D A C : Type 0} (disks : Disk.Ghosts D) (elements : Devices.Ghosts A) 
   IsMaterial store recorded (Some number) bytes = (is_opaque recorded ≡ true) × HoldsHandle (elements.keys store.devices) number (λ h. h ≡ record { key_type = recorded.key_type.0; bytes = bytes })
 
   -- a store is about to make a key: the table of creations has decided what is recorded, and the bytes are there
-  pub record IsReady (store : Store D A C) (caller : ℕ) (recorded : Attributes) (source : Option ℕ) (start : Service) (opening : Opening) (h : List Entry) (all : List Pairs) (e : Entry) : Type 0 where
+  pub record IsAboutToCreate (store : Store D A C) (caller : ℕ) (recorded : Attributes) (source : Option ℕ) (start : Service) (opening : Opening) (h : List Entry) (all : List Pairs) (e : Entry) : Type 0 where
     pub holds : HoldsHere (ToldHere store start (h ++ e ∷ [])) store start opening h all
     pub bytes : List ℕ
     pub material : IsMaterial store recorded source bytes
@@ -170,7 +170,7 @@ module _ {D A C : Type 0} (disks : Disk.Ghosts D) (elements : Devices.Ghosts A) 
   -- and something stands so, out of which a pair is
   abbrev pub IsSomeReady : Store D A C → (caller : ℕ) → Attributes → (source : Option ℕ) → ℕ × ℕ → Type 0
   IsSomeReady store caller recorded source p =
-      (start : Service) × (opening : Opening) × (h : List Entry) × (all : List Pairs) × (e : Entry) × IsReady store caller recorded source start opening h all e × (0 < named p.0 p.1 all)
+      (start : Service) × (opening : Opening) × (h : List Entry) × (all : List Pairs) × (e : Entry) × IsAboutToCreate store caller recorded source start opening h all e × (0 < named p.0 p.1 all)
 
   -- the request is to make this key
   pub record IsMaking (store : Store D A C) (start : Service) (h : List Entry) (e : Entry) (caller : ℕ) (recorded : Attributes) (bytes : List ℕ) : Type 0 where
@@ -189,7 +189,7 @@ module _ {D A C : Type 0} (disks : Disk.Ghosts D) (elements : Devices.Ghosts A) 
   -- the turn ends with the key made, or not, and P holds of the model before
   abbrev pub Enters : (old new : Store D A C) (caller : ℕ) → Attributes → (source : Option ℕ) → ℕ × ℕ → FaultMark → (model.Store → Type 0) → Type 0
   Enters old new caller recorded source p mark P = (start : Service) (opening : Opening) (h : List Entry) (all less : List Pairs) (e : Entry) →
-      (r : IsReady old caller recorded source start opening h all e) → IsSince old (last_counts opening.counts h) → Gains less all p → AreHoldings less →
+      (r : IsAboutToCreate old caller recorded source start opening h all e) → IsSince old (last_counts opening.counts h) → Gains less all p → AreHoldings less →
       IsMaking old start h e caller recorded r.bytes → IsEntryHere new mark e →
       StandsForHere new start opening (h ++ e ∷ []) less × P r.holds.model
 

@@ -21,7 +21,7 @@ use Rattle.store_core.specs.Represents.{IsEntry, Opening, StandsFor}
 
 -- What a call answers, and what it makes of its output buffer, by what the model has at its key's identifier. Over a device
 -- that doesn't tell its keys, what the element computes is whatever it is.
-pub record IsAnswered (held : Option HeldKeys) (id : ℕ) (call : ElementCall) (old new : List ℕ) (result : Result ℕ NotComputed) (m : model.Store) : Type 0 where
+pub record IsElementAnswered (held : Option HeldKeys) (id : ℕ) (call : ElementCall) (old new : List ℕ) (result : Result ℕ NotComputed) (m : model.Store) : Type 0 where
   pub decided : MatchOption (first_row (all_rows call (length old) (map.get m.keys id))) (IsOfElement call result) (λ status. result ≡ Err (Refused status))
   pub reply : is_some held ≡ true → AnswersCall call result (marked_reply (mark_computed result) (reply_on call (length old) (map.get m.keys id)))
   pub buffer : is_some held ≡ true → new ≡ buffer_after old (marked_reply (mark_computed result) (reply_on call (length old) (map.get m.keys id)))

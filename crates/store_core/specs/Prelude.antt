@@ -5,5 +5,5 @@ pub use Rattle.store_core.specs.Rising.{AreRising, NoFewerFaults, opening_after}
 pub use Rattle.store_core.specs.Start.{FindsKeysOf, IsStart, opening_of}
 pub use Rattle.store_core.specs.Uses.{HasAttributes, IsLent, IsRefused, IsUndestroyed, MayDestroy, mark_of, mark_undestroyed, status_of, status_undestroyed, there_rows}
 pub use Rattle.store_core.specs.Creations.{Copies, Creates, HasOutBeside, IsAmong, IsCreating, IsMade, IsUncopied, IsUnmade, RecordsCopy, RecordsStated, mark_uncopied, mark_unmade, status_uncopied, status_unmade}
-pub use Rattle.store_core.specs.Opaque.{IsAnswered, Makes}
+pub use Rattle.store_core.specs.Opaque.{IsElementAnswered, Makes}
 pub use Rattle.store_core.specs.Zeros.{HasKeyOrZeros}

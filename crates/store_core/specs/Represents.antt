@@ -4,9 +4,9 @@ use Rattle.driver_dispatch.specs.declared.devices.Devices as Devices
 use Rattle.admission.specs.declared.rules.Admission as Admission
 use Rattle.std.specs.Prelude.{◌≡◌, ◌<◌, ◌≤◌, ◌⊎◌, ℕ, ◌+◌, true, false, List, [], ◌∷◌, ◌++◌, length, slice_index, Option, None, Some, is_some}
 use Rattle.std.specs.FinMap as map
-use Rattle.key_cells.specs.declared.slot.Slot as cell
-use Rattle.key_cells.specs.declared.slot.Slot.TheVariants.{Open}
-use Rattle.key_cells.specs.Prelude.{cell_slot, IsSure}
+use Rattle.key_cells.specs.declared.state.CellState as cell
+use Rattle.key_cells.specs.declared.state.CellState.TheVariants.{Open}
+use Rattle.key_cells.specs.Prelude.{cell_state, IsSure}
 use Rattle.persistent_keys.specs.Calls.{StandsForThese}
 use Rattle.key_slots.specs.Holdings.{Pairs, Gains, AreHoldings, named}
 use Rattle.key_slots.specs.Standing.{Agrees}
@@ -27,13 +27,13 @@ abbrev pub IsTold : Option (List ℕ) → Service → List Entry → Type 0
 IsTold told start h = (is_some told ≡ true) ⊎ ReadsNone start h
 
 -- each persistent key has a cell under its identifier and number, and no cell has another key
-pub record IsDirectory (slots : List cell.Slot) (m : model.Store) : Type 0 where
+pub record IsDirectory (slots : List cell.CellState) (m : model.Store) : Type 0 where
   pub sized : length slots ≡ 512
   pub there : (id : ℕ) (key : Key) → map.get m.keys id ≡ Some key → is_volatile key.attributes ≡ false →
-      (c : ℕ) × (c < 512) × (cell_slot slots c ≡ Open id key.number)
-  pub only : (c id number : ℕ) → c < 512 → cell_slot slots c ≡ Open id number →
+      (c : ℕ) × (c < 512) × (cell_state slots c ≡ Open id key.number)
+  pub only : (c id number : ℕ) → c < 512 → cell_state slots c ≡ Open id number →
       (key : Key) × (map.get m.keys id ≡ Some key) × (is_volatile key.attributes ≡ false) × (key.number ≡ number)
-  pub one : (c other id number another : ℕ) → c < 512 → other < 512 → cell_slot slots c ≡ Open id number → cell_slot slots other ≡ Open id another → c ≡ other
+  pub one : (c other id number another : ℕ) → c < 512 → other < 512 → cell_state slots c ≡ Open id number → cell_state slots other ≡ Open id another → c ≡ other
 
 -- a device that tells its keys has each opaque key under its number, and no handle that wasn't given out
 pub record HoldsKeys (held : Option HeldKeys) (m : model.Store) : Type 0 where
@@ -74,11 +74,11 @@ module _ {D A C : Type 0} (disks : Disk.Ghosts D) (elements : Devices.Ghosts A) 
     pub ranked : store.ranked ≡ length h
     pub slots : Agrees store.slots.table.slots model all
     pub holdings : AreHoldings all
-    pub directory : IsDirectory store.file.cells.slots.items model
+    pub directory : IsDirectory store.file.cells.states.items model
     pub device : HoldsKeys (elements.keys store.devices) model
     pub file : is_some (disks.contents store.file.cells.disk) ≡ true →
         StandsForThese disks store.file (durable_keys model) (course_of start h).doubt
-    pub sure : is_some (disks.contents store.file.cells.disk) ≡ true → (course_of start h).doubt ≡ [] → IsSure store.file.cells.slots.items
+    pub sure : is_some (disks.contents store.file.cells.disk) ≡ true → (course_of start h).doubt ≡ [] → IsSure store.file.cells.states.items
     pub promise : is_some (disks.contents store.file.cells.disk) ≡ true → KeepsKeys (disks.left_since store.file.cells.disk) (disks.moment store.file.cells.disk) opening.moment start h
     pub caused : IsCaused (is_some (disks.contents store.file.cells.disk)) opening.counts h
     pub allowed : Told store start h → AreAllowed start h

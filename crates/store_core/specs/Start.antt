@@ -3,9 +3,9 @@ use Rattle.disk_face.specs.declared.Disk as Disk
 use Rattle.driver_dispatch.specs.declared.devices.Devices as Devices
 use Rattle.admission.specs.declared.rules.Admission as Admission
 use Rattle.std.specs.Prelude.{◌≡◌, ◌<◌, ◌≤◌, ◌↔◌, ℕ, true, List, [], length, replicate, count_by, slice_get, Option, Some, IfSome}
-use Rattle.key_cells.specs.declared.slot.Slot as cell
-use Rattle.key_cells.specs.declared.slot.Slot.TheVariants.{Open}
-use Rattle.key_cells.specs.Prelude.{body, cell_slot, is_open, IsKeyOf, HoldsKey, HasKey}
+use Rattle.key_cells.specs.declared.state.CellState as cell
+use Rattle.key_cells.specs.declared.state.CellState.TheVariants.{Open}
+use Rattle.key_cells.specs.Prelude.{body, cell_state, is_open, IsKeyOf, HoldsKey, HasKey}
 use Rattle.key_attributes.specs.declared.Attributes.{Attributes}
 use Rattle.store_model.specs.Prelude.{OpenedKey, Settings, Service, service_start}
 use Rattle.store_core.specs.declared.store.Opened.{Opened}
@@ -14,9 +14,9 @@ use Rattle.store_core.specs.Represents.{Opening, StandsFor}
 
 -- The keys of a directory's open cells, by their numbers. Where the disk tells its bytes, each is the key that its cell has
 -- there.
-pub record AreOpened (told : Option (List ℕ)) (slots : List cell.Slot) (found : List OpenedKey) : Type 0 where
+pub record AreOpened (told : Option (List ℕ)) (slots : List cell.CellState) (found : List OpenedKey) : Type 0 where
   pub count : length found ≡ count_by is_open slots
-  pub each : (c id number : ℕ) → c < 512 → cell_slot slots c ≡ Open id number →
+  pub each : (c id number : ℕ) → c < 512 → cell_state slots c ≡ Open id number →
       (key : OpenedKey) × (slice_get found number ≡ Some key) × (key.attributes.id.0 ≡ id) × IsKeyOf key.attributes key.bytes × IfSome told (λ image. HoldsKey key.attributes key.bytes (body c image))
 
 module _ {D A C : Type 0} (disks : Disk.Ghosts D) (elements : Devices.Ghosts A) (admits : Admission.Ghosts C) where
@@ -29,7 +29,7 @@ module _ {D A C : Type 0} (disks : Disk.Ghosts D) (elements : Devices.Ghosts A) 
     pub labels_are : settings.labels ≡ admits.labels opened.rules.value
     pub locations_are : settings.locations ≡ elements.locations opened.devices.value
     pub has_file : settings.has_file ≡ true
-    pub keys : AreOpened (disks.contents opened.file.value.cells.disk) opened.file.value.cells.slots.items found
+    pub keys : AreOpened (disks.contents opened.file.value.cells.disk) opened.file.value.cells.states.items found
 
   -- the disk's moment and the counts of faults as the opening answered
   abbrev pub opening_of : Opened D A C → Opening

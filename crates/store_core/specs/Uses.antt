@@ -7,17 +7,17 @@ use Rattle.psa_status.specs.declared.Status.TheVariants.{InvalidHandle, StorageF
 use Rattle.psa_status.specs.Rows.{first_row}
 use Rattle.key_attributes.specs.declared.Attributes.{Attributes}
 use Rattle.secret_bytes.specs.Buffer.{bytes_of}
-use Rattle.key_cells.specs.declared.slot.Slot as cell
-use Rattle.key_cells.specs.declared.slot.Slot.TheVariants.{Free}
+use Rattle.key_cells.specs.declared.state.CellState as cell
+use Rattle.key_cells.specs.declared.state.CellState.TheVariants.{Free}
 use Rattle.key_cells.specs.declared.cells.CellFault.{CellFault}
 use Rattle.key_cells.specs.declared.cells.CellFault.TheVariants as cell_fault
-use Rattle.key_cells.specs.Prelude.{cell_slot, has_id}
+use Rattle.key_cells.specs.Prelude.{cell_state, has_id}
 use Rattle.driver_dispatch.specs.Held.{HeldKeys, without_key}
 use Rattle.slot_table.specs.Slots.{Slot, empty_slot, holds_key, slot_at}
 use Rattle.slot_table.specs.Changes.{destroyed_slot}
 use Rattle.slot_table.specs.Lent as lent
 use Rattle.key_slots.specs.Standing.{SlotHasKey}
-use Rattle.key_slots.specs.Wiping.{Keeps}
+use Rattle.key_slots.specs.Wiping.{KeepsSlot}
 use Rattle.store_model.specs.Store as model
 use Rattle.store_model.specs.Prelude.{Key, is_opaque, is_persistent_key, is_opaque_key, FaultMark, Plain, Storage, Hardware, Reading, Writing, destroy_rows}
 use Rattle.store_model.specs.Faults as fault
@@ -77,7 +77,7 @@ there_rows (Some key) = None
 
 -- each slot keeps what it has, or is empty afterwards
 abbrev pub KeepsOrEmpties : (old new : List Slot) → Type 0
-KeepsOrEmpties old new = (i : ℕ) → i < 384 → Keeps (slot_at old i) (slot_at new i) ⊎ (slot_at new i ≡ empty_slot)
+KeepsOrEmpties old new = (i : ℕ) → i < 384 → KeepsSlot (slot_at old i) (slot_at new i) ⊎ (slot_at new i ≡ empty_slot)
 
 -- what a call answers that didn't destroy its key for sure
 abbrev pub status_undestroyed : NotDestroyed → Status
@@ -106,8 +106,8 @@ abbrev pub EndsSlotsOf : (id : ℕ) → (old new : List Slot) → Type 0
 EndsSlotsOf id old new = (i : ℕ) → holds_key id (slot_at old i) ≡ true → slot_at new i ≡ destroyed_slot (slot_at old i)
 
 -- and each cell that has it is free
-abbrev pub FreesCellsOf : (id : ℕ) → (old new : List cell.Slot) → Type 0
-FreesCellsOf id old new = (c : ℕ) → c < 512 → has_id id (cell_slot old c) ≡ true → cell_slot new c ≡ Free
+abbrev pub FreesCellsOf : (id : ℕ) → (old new : List cell.CellState) → Type 0
+FreesCellsOf id old new = (c : ℕ) → c < 512 → has_id id (cell_state old c) ≡ true → cell_state new c ≡ Free
 
 -- A device that tells its keys has lost the key of a slot, where it is the element's, and else has what it had.
 abbrev pub IsForgotten : Slot → (old new : Option HeldKeys) → Type 0

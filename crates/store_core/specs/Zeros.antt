@@ -4,8 +4,8 @@ use Rattle.driver_dispatch.specs.declared.devices.Devices as Devices
 use Rattle.admission.specs.declared.rules.Admission as Admission
 use Rattle.std.specs.Prelude.{◌≡◌, ◌<◌, ◌⊎◌, ℕ, true, List, [], ◌∷◌, Some, is_some}
 use Rattle.disk_face.specs.Moments.{Within}
-use Rattle.key_cells.specs.declared.slot.Slot.TheVariants.{Free}
-use Rattle.key_cells.specs.Prelude.{gate, body, opened_gate, HasZeros, cell_slot, HoldsKey}
+use Rattle.key_cells.specs.declared.state.CellState.TheVariants.{Free}
+use Rattle.key_cells.specs.Prelude.{gate, body, opened_gate, HasZeros, cell_state, HoldsKey}
 use Rattle.persistent_keys.specs.declared.file.KeyFile.{KeyFile}
 use Rattle.persistent_keys.specs.Files.{Stored, Keys, Doubt}
 use Rattle.persistent_keys.specs.Calls.{StandsForThese}
@@ -20,7 +20,7 @@ HasKeyOrZeros keys cell image = ((id : ℕ) × (key : Stored) × (keys id ≡ So
 
 -- a cell that is free before calls and after them is all zeros in every image that a crash within them leaves
 abbrev pub LeavesZeros : {D : Type 0} (disks : Disk.Ghosts D) (old new : KeyFile D) → Type 0
-LeavesZeros disks old new = (cell : ℕ) → cell < 512 → cell_slot old.cells.slots.items cell ≡ Free → cell_slot new.cells.slots.items cell ≡ Free →
+LeavesZeros disks old new = (cell : ℕ) → cell < 512 → cell_state old.cells.states.items cell ≡ Free → cell_state new.cells.states.items cell ≡ Free →
     Within (disks.moment old.cells.disk) (disks.moment new.cells.disk) (disks.left_since old.cells.disk) (disks.left_since new.cells.disk) (HasZeros cell)
 
 -- so it is in a file that stands for some keys
@@ -45,7 +45,7 @@ module _ {D A C : Type 0} (disks : Disk.Ghosts D) (elements : Devices.Ghosts A) 
     pub stands : Stands disks elements admits old
     pub tells : is_some (disks.contents old.file.cells.disk) ≡ true
     pub zeros : StaysZeros disks elements admits old new
-    pub free : cell_slot new.file.cells.slots.items cell ≡ Free
+    pub free : cell_state new.file.cells.states.items cell ≡ Free
 
   -- and so does each of some turns, one after another
   abbrev pub StaysFree : (cell : ℕ) → Store D A C → List (Store D A C) → Type 0

@@ -8,8 +8,8 @@ ghost use Rattle.psa_status.specs.Causes.{HasCause};
 ghost use Rattle.psa_status.specs.Rows.{first_row};
 ghost use Rattle.driver_dispatch.specs.Held.{without_key};
 ghost use Rattle.driver_dispatch.specs.Calls.{HoldsHandle, has_element};
-ghost use Rattle.key_cells.specs.declared.slot.Slot.TheVariants.{Free};
-ghost use Rattle.key_cells.specs.Prelude.{HasNoKey, IsFirstWithKey, cell_slot, has_id};
+ghost use Rattle.key_cells.specs.declared.state.CellState.TheVariants.{Free};
+ghost use Rattle.key_cells.specs.Prelude.{HasNoKey, IsFirstWithKey, cell_state, has_id};
 ghost use Rattle.slot_states.specs.declared.SlotState.TheVariants.{Full};
 ghost use Rattle.slot_table.specs.Slots.{NoKey, holds_key, slot_at};
 ghost use Rattle.slot_table.specs.Changes.{destroyed_slot};
@@ -65,7 +65,7 @@ impl<D: Disk, A: Devices, C: Admission> Store<D, A, C> {
         ensures ended { EndsSlotsOf id.0 self.old.slots.table.slots self.new.slots.table.slots }
         ensures forgotten { OnOk result (Forgets id.0 self.old.slots.table.slots (A.keys self.old.devices) (A.keys self.new.devices)) }
         ensures unasked { NoKey id.0 self.old.slots.table.slots → self.new.devices ≡ self.old.devices }
-        ensures freed { OnOk result (FreesCellsOf id.0 self.old.file.cells.slots.items self.new.file.cells.slots.items) }
+        ensures freed { OnOk result (FreesCellsOf id.0 self.old.file.cells.states.items self.new.file.cells.states.items) }
         ensures zeros { StaysZeros D.Disk A.Devices C.Admission self.old self.new }
         ensures later { NoFewerFaults D.faults A.faults self.old self.new }
         ensures tells { StillTells (D.contents self.old.file.cells.disk) (D.contents self.new.file.cells.disk) }
@@ -95,7 +95,7 @@ impl<D: Disk, A: Devices, C: Admission> Store<D, A, C> {
     fn remove_kept(&mut self, id: KeyId, cell: usize) -> Result<(), NotDestroyed>
         requires stands { Stands D.Disk A.Devices C.Admission self.old }
         requires size { D.size self.old.file.cells.disk ≡ 557120 }
-        requires there { IsFirstWithKey self.old.file.cells.slots.items id.0 cell }
+        requires there { IsFirstWithKey self.old.file.cells.states.items id.0 cell }
         ensures size { D.size self.new.file.cells.disk ≡ 557120 }
         ensures destroyed { OnOk result (Destroys D.Disk A.Devices C.Admission self.old (ranked_on self.new) id.0 Plain (MayDestroy id.0)) }
         ensures failed { IfErr result (λ why. DestroysUnsure D.Disk A.Devices C.Admission self.old (ranked_on self.new) id.0 why) }
@@ -103,7 +103,7 @@ impl<D: Disk, A: Devices, C: Admission> Store<D, A, C> {
         ensures ended { EndsSlotsOf id.0 self.old.slots.table.slots self.new.slots.table.slots }
         ensures forgotten { OnOk result (Forgets id.0 self.old.slots.table.slots (A.keys self.old.devices) (A.keys self.new.devices)) }
         ensures devices { self.new.devices ≡ self.old.devices }
-        ensures freed { OnOk result (FreesCellsOf id.0 self.old.file.cells.slots.items self.new.file.cells.slots.items) }
+        ensures freed { OnOk result (FreesCellsOf id.0 self.old.file.cells.states.items self.new.file.cells.states.items) }
         ensures zeros { FileStaysZeros D.Disk self.old.file self.new.file }
         ensures later { NoFewerFaults D.faults A.faults self.old self.new }
         ensures tells { StillTells (D.contents self.old.file.cells.disk) (D.contents self.new.file.cells.disk) }
@@ -127,7 +127,7 @@ impl<D: Disk, A: Devices, C: Admission> Store<D, A, C> {
     fn remove_volatile(&mut self, id: KeyId, slot: u32) -> Result<(), NotDestroyed>
         requires stands { Stands D.Disk A.Devices C.Admission self.old }
         requires size { D.size self.old.file.cells.disk ≡ 557120 }
-        requires absent { HasNoKey self.old.file.cells.slots.items id.0 }
+        requires absent { HasNoKey self.old.file.cells.states.items id.0 }
         requires within { slot < 384 }
         requires full { (slot_at self.old.slots.table.slots slot).state ≡ Full }
         requires there { holds_key id.0 (slot_at self.old.slots.table.slots slot) ≡ true }

@@ -6,7 +6,7 @@ ghost use Rattle.store_model.specs.Prelude.{is_opaque_key};
 ghost use Rattle.secure_element_calls.specs.Answers.{IsOfServed, IsRefusedBefore, mark_computed};
 ghost use Rattle.secure_element_calls.specs.Calls.{AsksElement, model_call};
 ghost use Rattle.secure_element_calls.specs.declared.calls.NotComputed.TheVariants as uncomputed;
-ghost use Rattle.store_core.specs.Opaque.{IsAnswered, Makes};
+ghost use Rattle.store_core.specs.Opaque.{IsElementAnswered, Makes};
 ghost use Rattle.store_core.specs.Represents.{HoldsOf, Stands};
 ghost use Rattle.store_core.specs.Rising.{NoFewerFaults};
 
@@ -44,7 +44,7 @@ impl<D: Disk, A: Devices, C: Admission> Store<D, A, C> {
         requires opaque { HoldsOf D.Disk A.Devices C.Admission self.old
             (λ m. is_opaque_key (map.get m.keys id.0) ≡ true) }
         ensures made { Makes D.Disk A.Devices C.Admission self.old self.new
-            (model_call call.now id.0 (length out.old)) (mark_computed result) (IsAnswered (A.keys self.old.devices) id.0 call.now out.old out.new result) }
+            (model_call call.now id.0 (length out.old)) (mark_computed result) (IsElementAnswered (A.keys self.old.devices) id.0 call.now out.old out.new result) }
         ensures served { IsOfServed result → AsksElement call.now → Rose (A.served self.old.devices) (A.served self.new.devices) }
         ensures unasked { IsRefusedBefore result → self.new.devices ≡ self.old.devices }
         ensures failed { IsErrOf result uncomputed.Failed → Rose (A.faults self.old.devices) (A.faults self.new.devices) }

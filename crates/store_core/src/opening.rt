@@ -1,7 +1,7 @@
 //! How a store is opened.
 ghost use Rattle.std.specs.Prelude.{◌≡◌, ◌≤◌, ◌↔◌, ℕ, List, [], length, replicate, count_by, slice_get, Some, IfOk, IfErr, IfSome};
 ghost use Rattle.secret_bytes.specs.Buffer.{IsClear};
-ghost use Rattle.key_cells.specs.Prelude.{is_open, IsOpened, IsRefused};
+ghost use Rattle.key_cells.specs.Prelude.{is_open, IsOpened, IsOpeningRefused};
 ghost use Rattle.slot_table.specs.Slots.{empty_slot};
 ghost use Rattle.driver_dispatch.specs.Calls.{Lacks};
 ghost use Rattle.store_model.specs.Prelude.{Service};
@@ -53,19 +53,19 @@ impl<D: Disk, A: Devices, C: Admission> Store<D, A, C> {
         ensures stands { IfOk result (λ store. BeginsAtStart D.Disk A.Devices C.Admission store) }
         ensures starts { IfOk result (λ store. (start : Service) × IsStart D.Disk A.Devices C.Admission store.opened start) }
         ensures keys { IfOk result (λ store. IfSome (D.contents disk) (λ image. FindsKeysOf D.Disk A.Devices C.Admission store.opened image)) }
-        ensures opened { IfOk result (λ store. IsOpened D.Disk disk store.file.cells.disk store.file.cells.slots.items) }
+        ensures opened { IfOk result (λ store. IsOpened D.Disk disk store.file.cells.disk store.file.cells.states.items) }
         ensures later { IfOk result (λ store. D.faults disk ≤ D.faults store.file.cells.disk) }
         ensures size { IfOk result (λ store. D.size store.file.cells.disk ≡ 557120) }
         ensures clear { IfOk result (λ store. IsClear store.buffer) }
         ensures ranked { IfOk result (λ store. store.ranked ≡ 0) }
-        ensures found { IfOk result (λ store. store.found ≡ count_by is_open store.file.cells.slots.items) }
+        ensures found { IfOk result (λ store. store.found ≡ count_by is_open store.file.cells.states.items) }
         ensures devices { IfOk result (λ store. store.devices ≡ devices) }
         ensures rules { IfOk result (λ store. store.rules ≡ rules) }
         ensures saw_file { IfOk result (λ store. store.opened.file.value ≡ store.file) }
         ensures saw_devices { IfOk result (λ store. store.opened.devices.value ≡ store.devices) }
         ensures saw_rules { IfOk result (λ store. store.opened.rules.value ≡ store.rules) }
         ensures saw_seed { IfOk result (λ store. store.opened.seed.value ≡ seed.now) }
-        ensures refused { IfErr result (λ unopened. IsRefused D.Disk disk unopened.disk unopened.fault) }
+        ensures refused { IfErr result (λ unopened. IsOpeningRefused D.Disk disk unopened.disk unopened.fault) }
         ensures returned { IfErr result (λ unopened. unopened.devices ≡ devices) }
     {
         let (slots, buffer) = match new_rooms(alloc) {
@@ -97,15 +97,15 @@ impl<D: Disk, A: Devices, C: Admission> Store<D, A, C> {
         buffer: Secret,
         seed: &[u8; 32],
     ) -> Store<D, A, C>
-        requires sized { length file.cells.slots.items ≡ 512 }
+        requires sized { length file.cells.states.items ≡ 512 }
         ensures file { result.file ≡ file }
         ensures slots { result.slots ≡ slots }
         ensures devices { result.devices ≡ devices }
         ensures rules { result.rules ≡ rules }
         ensures made { result.made ≡ replicate 17 0 }
         ensures live { result.live ≡ replicate 17 0 }
-        ensures kept { result.kept ≡ count_by is_open file.cells.slots.items }
-        ensures found { result.found ≡ count_by is_open file.cells.slots.items }
+        ensures kept { result.kept ≡ count_by is_open file.cells.states.items }
+        ensures found { result.found ≡ count_by is_open file.cells.states.items }
         ensures ranked { result.ranked ≡ 0 }
         ensures buffer { result.buffer ≡ buffer }
         ensures saw_file { result.opened.file.value ≡ file }

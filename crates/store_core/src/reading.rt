@@ -73,7 +73,7 @@ impl<D: Disk, A: Devices, C: Admission> Store<D, A, C> {
         ensures wipes { TakesOne self.old.slots.table.slots self.new.slots.table.slots }
         ensures unmoved { IsErrOf result unread.Missing → self.new.slots ≡ self.old.slots }
         ensures emptied { OnErr result (KeepsOrEmpties self.old.slots.table.slots self.new.slots.table.slots) }
-        ensures directory { self.new.file.cells.slots ≡ self.old.file.cells.slots }
+        ensures directory { self.new.file.cells.states ≡ self.old.file.cells.states }
         ensures keeps { KeepsFile D.Disk self.old.file self.new.file }
         ensures devices { self.new.devices ≡ self.old.devices }
         ensures rules { self.new.rules ≡ self.old.rules }
@@ -104,7 +104,7 @@ impl<D: Disk, A: Devices, C: Admission> Store<D, A, C> {
         requires size { D.size self.old.file.cells.disk ≡ 557120 }
         requires clear { IsClear self.old.buffer }
         requires unknown { NoKey id.0 self.old.slots.table.slots }
-        requires there { IsFirstWithKey self.old.file.cells.slots.items id.0 cell }
+        requires there { IsFirstWithKey self.old.file.cells.states.items id.0 cell }
         ensures size { D.size self.new.file.cells.disk ≡ 557120 }
         ensures clear { IsClear self.new.buffer }
         ensures within { IfOk result (λ i. i < 384) }
@@ -119,7 +119,7 @@ impl<D: Disk, A: Devices, C: Admission> Store<D, A, C> {
         ensures later { D.faults self.old.file.cells.disk ≤ D.faults self.new.file.cells.disk }
         ensures wipes { TakesOne self.old.slots.table.slots self.new.slots.table.slots }
         ensures emptied { OnErr result (KeepsOrEmpties self.old.slots.table.slots self.new.slots.table.slots) }
-        ensures directory { self.new.file.cells.slots ≡ self.old.file.cells.slots }
+        ensures directory { self.new.file.cells.states ≡ self.old.file.cells.states }
         ensures keeps { KeepsFile D.Disk self.old.file self.new.file }
         ensures devices { self.new.devices ≡ self.old.devices }
         ensures rules { self.new.rules ≡ self.old.rules }

@@ -146,7 +146,7 @@ impl<D: Disk, A: Devices, C: Admission> Store<D, A, C> {
 
     // Whether there is a key.
     pub(crate) fn has(&self, id: KeyId) -> bool
-        ensures { (m : model.Store) (all : List Pairs) → Agrees self.now.slots.table.slots m all → IsDirectory self.now.file.cells.slots.items m →
+        ensures { (m : model.Store) (all : List Pairs) → Agrees self.now.slots.table.slots m all → IsDirectory self.now.file.cells.states.items m →
             is_some (map.get m.keys id.0) ≡ result }
     {
         if let Some(_slot) = self.slots.find(id) {

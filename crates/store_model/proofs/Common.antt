@@ -36,7 +36,7 @@ pub use Rattle.store_model.specs.Faults.{Corrupt, FaultMark, Hardware, Plain, St
 pub use Rattle.store_model.specs.HandleCalls.{Abort, AeadSetup, CipherSetup, DerivationSetup, HandleCall, HashSetup, InputKey, MacSetup, OnAead, OnCipher, OnDerivation, OnHash, OnMac, OutputKey, creation_of, derived_key, derived_key_of, handle_step, input_key, input_key_rows, is_setup, output_key, random_of, underived}
 pub use Rattle.store_model.specs.Handles.{Authenticating, Ciphering, Deriving, HandleOperation, Hashing, Held, KeyCreation, Own, Sealing, Served, Service, Work, aead_part, applied, cipher_part, derivation_part, hash_part, held_after, is_alive, key_of_operation, mac_part, new_own, next_random, operation_of, own_of, part_of, service_of, stepped, untouched, with_drawn, with_operation, with_own}
 pub use Rattle.store_model.specs.HashOperations.{HashFinish, HashStep, HashUpdate, HashVerify, HashWork, hash_step, hash_work, total_rows}
-pub use Rattle.store_model.specs.KeyUse.{attributes_reply, bytes_of, destroy_rows, destroyed, export_rows, purge_reply}
+pub use Rattle.store_model.specs.KeyUse.{attributes_reply, bytes_of_key, destroy_rows, destroyed, export_rows, purge_reply}
 pub use Rattle.store_model.specs.Laws.{AllowedGoOn, CausesGoOn, CountsOnce, DrawsFewWords, LeavesOtherCallers, LeavesOtherHandles, LeavesSettings, LeavesShared, MarksAlone, RefusalsLeaveAll, RefusalsLeaveBuffers, RefusedSetupsLeaveAll, RulesAreFollowed, UnreadyHandlesStay, handle_of, left_all, may_change_keys}
 pub use Rattle.store_model.specs.MacOperations.{MacSignFinish, MacStep, MacUpdate, MacVerifyFinish, MacWork, mac_step, mac_work, sign_rows, verify_rows}
 pub use Rattle.store_model.specs.Marks.{key_answered}

@@ -62,7 +62,7 @@ digest_of false true d m = length-sha256 m
 digest_of false false true m = length-sha384 m
 digest_of false false false m = length-sha512 m
 
-length-digest : (byte : ℕ) (m : List ℕ) → length (digest byte m) ≡ table.hash_length byte
+length-digest : (byte : ℕ) (m : List ℕ) → length (digest byte m) ≡ table.named_hash_length byte
 length-digest byte m = digest_of (byte == 8) (byte == 9) (byte == 10) m
 
 some_bytes : (b c d : Bool) → 1 ≤ cond b 28 (cond c 32 (cond d 48 64))
@@ -75,10 +75,10 @@ length_by_scheme : (w : DerivationWork) (n : ℕ) (hkdf : Bool) → (hkdf ≡ fa
     (pbkdf2 hash block (bytes_or_empty w.secret) (bytes_or_empty w.salt) (number_or_zero w.cost) n)) ≡ n
 length_by_scheme w n true cost =
     let byte : ℕ = low_byte w.alg in
-    length-expand (digest byte) (table.hash_length byte) (hash_block_length byte) (length-digest byte) (some_bytes (byte == 8) (byte == 9) (byte == 10)) _ _ n
+    length-expand (digest byte) (table.named_hash_length byte) (hash_block_length byte) (length-digest byte) (some_bytes (byte == 8) (byte == 9) (byte == 10)) _ _ n
 length_by_scheme w n false cost =
     let byte : ℕ = low_byte w.alg in
-    length-pbkdf2 (digest byte) (table.hash_length byte) (hash_block_length byte) (length-digest byte) (some_bytes (byte == 8) (byte == 9) (byte == 10)) _ _ (number_or_zero w.cost) (cost refl) n
+    length-pbkdf2 (digest byte) (table.named_hash_length byte) (hash_block_length byte) (length-digest byte) (some_bytes (byte == 8) (byte == 9) (byte == 10)) _ _ (number_or_zero w.cost) (cost refl) n
 
 some_cost : (cost : Option ℕ) → is_some cost ≡ true → ((n : ℕ) → cost ≡ Some n → 1 ≤ n) → 1 ≤ number_or_zero cost
 some_cost None e h = cc

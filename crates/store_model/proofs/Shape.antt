@@ -1,6 +1,6 @@
 -- The shape of any call on a handle: it leaves all operations, or makes a step of its own, or creates a key.
 use Rattle.std.proofs.Common.{Bool, Err, List, None, Ok, Option, Result, Some, [], ap, arith, cond, false, is_some, nat_lt, not, refl, subst, sym, true, ℕ, ◌++◌, ◌∷◌, ◌≡◌, ◌≤◌}
-use Rattle.store_model.proofs.Common.{Abort, Active, AeadSetup, AeadWork, After, AlreadyExists, Attributes, Authenticating, BadState, CipherSetup, CipherWork, Ciphering, Class, DerivationSetup, DerivationWork, Deriving, HandleCall, HandleOperation, HashSetup, HashWork, Hashing, Held, Inactive, InputKey, InsufficientData, InsufficientStorage, InvalidArgument, InvalidHandle, IsSoundHeld, IsSoundStore, IsSoundUse, IsSoundWork, Key, KeyCreation, KeyLimit, MacSetup, MacWork, NotPermitted, NotSupported, OnAead, OnCipher, OnDerivation, OnHandle, OnHash, OnMac, Operation, OutputKey, Rows, Sealing, Served, Service, Status, Store, Work, aead_part, aead_step, aead_work, applied, bytes_of, cipher_part, cipher_step, cipher_usage, cipher_work, class_rows, creation_of, derivation_part, derivation_step, derivation_work, derived_key, derived_key_of, done, ends, fails, first_row, goes_on, handle_step, hash_part, hash_step, hash_work, held_after, input_key, input_key_rows, is_active, is_alive, is_inactive, is_ready, key_of_operation, left_by, mac_part, mac_step, mac_usage, mac_work, may_change_keys, operation_of, output_key, output_key_rows, part_of, random_of, set_up, stated_bytes, stays, stepped, underived, unless, unless-ok, untouched, use_rows, with_key}
+use Rattle.store_model.proofs.Common.{Abort, Active, AeadSetup, AeadWork, After, AlreadyExists, Attributes, Authenticating, BadState, CipherSetup, CipherWork, Ciphering, Class, DerivationSetup, DerivationWork, Deriving, HandleCall, HandleOperation, HashSetup, HashWork, Hashing, Held, Inactive, InputKey, InsufficientData, InsufficientStorage, InvalidArgument, InvalidHandle, IsSoundHeld, IsSoundStore, IsSoundUse, IsSoundWork, Key, KeyCreation, KeyLimit, MacSetup, MacWork, NotPermitted, NotSupported, OnAead, OnCipher, OnDerivation, OnHandle, OnHash, OnMac, Operation, OutputKey, Rows, Sealing, Served, Service, Status, Store, Work, aead_part, aead_step, aead_work, applied, bytes_of_key, cipher_part, cipher_step, cipher_usage, cipher_work, class_rows, creation_of, derivation_part, derivation_step, derivation_work, derived_key, derived_key_of, done, ends, fails, first_row, goes_on, handle_step, hash_part, hash_step, hash_work, held_after, input_key, input_key_rows, is_active, is_alive, is_inactive, is_ready, key_of_operation, left_by, mac_part, mac_step, mac_usage, mac_work, may_change_keys, operation_of, output_key, output_key_rows, part_of, random_of, set_up, stated_bytes, stays, stepped, underived, unless, unless-ok, untouched, use_rows, with_key}
 use Rattle.std.specs.FinMap as map
 use Rattle.alg_encoding.specs.declared.table.Class.TheVariants as class
 use Rattle.store_model.proofs.Tables.{NoFault, RefusesPlainly, none_holds, refuses_plainly}
@@ -66,11 +66,11 @@ set_up_step call sets store other refused held plain sound = stayed_step call se
 
 keyed_step : (call : HandleCall) → SetsUp call → (store : Store) (before : HandleOperation) (class : Class) (usage alg id : ℕ) (work : List ℕ → Work) → ((key : List ℕ) → IsSoundWork (work key)) →
     let found : Option Key = map.get store.keys id in
-    IsStep call store before (set_up before (first_row (use_rows false class usage alg found)) (record { key = creation_of id found; work = work (bytes_of found) }))
+    IsStep call store before (set_up before (first_row (use_rows false class usage alg found)) (record { key = creation_of id found; work = work (bytes_of_key found) }))
 keyed_step call sets store before class usage alg id work sound =
     let found : Option Key = map.get store.keys id in
-    set_up_step call sets store before (first_row (use_rows false class usage alg found)) (record { key = creation_of id found; work = work (bytes_of found) })
-    (used_plainly false class usage alg found) (λ s. record { key = creation_sound store id found refl s; work = sound (bytes_of found) })
+    set_up_step call sets store before (first_row (use_rows false class usage alg found)) (record { key = creation_of id found; work = work (bytes_of_key found) })
+    (used_plainly false class usage alg found) (λ s. record { key = creation_sound store id found refl s; work = sound (bytes_of_key found) })
 
 -- STEPS
 
@@ -131,7 +131,7 @@ module _ (service : Service) (caller handle step id : ℕ) (P : Served → Type 
   found_key = map.get service.store.keys id
 
   given_step : (w : DerivationWork) → first_row (input_key_rows w found_key step) ≡ None →
-      IsStep (InputKey step id) service.store (held_derivation the_key w) (held_after (creation_of id found_key) Deriving (goes_on (with_key w (bytes_of found_key)) done))
+      IsStep (InputKey step id) service.store (held_derivation the_key w) (held_after (creation_of id found_key) Deriving (goes_on (with_key w (bytes_of_key found_key)) done))
   given_step w e = record {
     few = omega arith;
     undrawn = λ no. refl;
@@ -139,7 +139,7 @@ module _ (service : Service) (caller handle step id : ℕ) (P : Served → Type 
     left = λ no. absurd (no refl);
     no_key = λ a. refl;
     buffer = λ no. absurd (no refl);
-    sound = λ s h. record { key = creation_sound service.store id found_key refl s; work = key_sound w (bytes_of found_key) (key_due w found_key step e) h.work };
+    sound = λ s h. record { key = creation_sound service.store id found_key refl s; work = key_sound w (bytes_of_key found_key) (key_due w found_key step e) h.work };
   }
 
   input_key_shape : (now : Operation DerivationWork) → part_of derivation_part (operation_of service caller handle) ≡ now → P (input_key service caller handle now step id)
@@ -147,7 +147,7 @@ module _ (service : Service) (caller handle step id : ℕ) (P : Served → Type 
       let key : Option KeyCreation = creation_of id found_key in
       steps_shape service caller handle _ P cases Deriving w _ (held_as derivation_part Deriving own_derivation (operation_of service caller handle) w e)
       (alive_step service.store key Deriving (held_derivation the_key w) (is_alive service.store the_key) _ refl
-      (unless_step service.store key Deriving (held_derivation the_key w) (first_row (input_key_rows w found_key step)) (goes_on (with_key w (bytes_of found_key)) done) (input_plainly w found_key step) (λ status refused. refl) (given_step w)))
+      (unless_step service.store key Deriving (held_derivation the_key w) (first_row (input_key_rows w found_key step)) (goes_on (with_key w (bytes_of_key found_key)) done) (input_plainly w found_key step) (λ status refused. refl) (given_step w)))
   input_key_shape other e = cases.untouched_too (unready_left (InputKey step id) (operation_of service caller handle) (ap is_active e))
 
 -- A KEY OF DERIVED BYTES

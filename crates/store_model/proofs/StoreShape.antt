@@ -1,6 +1,6 @@
 -- The shape of any call on the store: it is counted alone, or creates a key, or destroys one.
 use Rattle.std.proofs.Common.{Bool, Err, List, None, Ok, Option, Result, Some, ap, arith, bytes_eq, cond, drop, false, inl, inr, length, ok_or, refl, subst, sym, take, true, ℕ, ◌++◌, ◌-◌, ◌∙◌, ◌≡◌, ◌≤◌, ◌⊎◌}
-use Rattle.store_model.proofs.Common.{AeadDecrypt, AeadEncrypt, Attributes, Call, CipherDecrypt, CipherEncrypt, Class, Computed, Copy, Ctr, Destroy, Export, Generate, GetAttributes, HashCompare, HashCompute, Import, InvalidArgument, InvalidHandle, InvalidPadding, InvalidSignature, IsWithin, Key, MacCompute, MacVerify, Mode, OnStore, Outcome, Request, Policy, Purge, Reply, Status, Store, Success, attributes_reply, bytes_of, computed_unless, counted, created, created_unless, decided, deciphered, destroy_rows, destroyed, done, enciphered, export_rows, first_row, given, has_secure_element, hash_of, is_ctr, is_of_fault, iv_length, key_answered, mac_of, may_change_keys, meet_of, mode_of, plain_or_zeros, purge_reply, recorded_of, refusal, refused, replies, reply_unless, source_of, spoiled, spoils, stated_bits_rows, stated_bytes, tag_bytes, unless, unless-ok, use_rows, with_computed, with_implied}
+use Rattle.store_model.proofs.Common.{AeadDecrypt, AeadEncrypt, Attributes, Call, CipherDecrypt, CipherEncrypt, Class, Computed, Copy, Ctr, Destroy, Export, Generate, GetAttributes, HashCompare, HashCompute, Import, InvalidArgument, InvalidHandle, InvalidPadding, InvalidSignature, IsWithin, Key, MacCompute, MacVerify, Mode, OnStore, Outcome, Request, Policy, Purge, Reply, Status, Store, Success, attributes_reply, bytes_of_key, computed_unless, counted, created, created_unless, decided, deciphered, destroy_rows, destroyed, done, enciphered, export_rows, first_row, given, has_secure_element, hash_of, is_ctr, is_of_fault, iv_length, key_answered, mac_of, may_change_keys, meet_of, mode_of, plain_or_zeros, purge_reply, recorded_of, refusal, refused, replies, reply_unless, source_of, spoiled, spoils, stated_bits_rows, stated_bytes, tag_bytes, unless, unless-ok, use_rows, with_computed, with_implied}
 use Rattle.std.specs.Option.{option_map}
 use Rattle.std.specs.FinMap as map
 use Rattle.store_model.specs.Draws.{Random}
@@ -11,7 +11,7 @@ use Rattle.store_model.specs.Hashes as hashes
 use Rattle.store_model.specs.Macs as macs
 use Rattle.store_model.specs.Aeads as aeads
 use Rattle.alg_encoding.specs.declared.table.Class.TheVariants.{Mac, Cipher, Aead}
-use Rattle.store_model.specs.Aeads.{aead_text, aead_tag, sealed, opened}
+use Rattle.store_model.specs.Aeads.{aead_text, aead_tag, sealed, opened_text}
 use Rattle.store_model.specs.Step.{step}
 use Rattle.store_model.proofs.Buffers.{LeavesBuffer, refusal_leaves, spoiled_leaves}
 use Rattle.store_model.proofs.Tables.{NoFault, RefusesPlainly, refuses_plainly}
@@ -104,7 +104,7 @@ either_counts : (b : Bool) (x y : Reply) → IsCounted x 0 → IsCounted y 0 →
 either_counts true x y h k = h
 either_counts false x y h k = k
 
-opened_counts : (alg : ℕ) (key nonce ad cipher tag : List ℕ) → IsCounted (opened alg key nonce ad cipher tag) 0
+opened_counts : (alg : ℕ) (key nonce ad cipher tag : List ℕ) → IsCounted (opened_text alg key nonce ad cipher tag) 0
 opened_counts alg key nonce ad cipher tag =
     let plain : List ℕ = aead_text alg key nonce cipher in
     either_counts (bytes_eq tag (aead_tag alg key nonce ad plain cipher)) (given plain) (spoiled InvalidSignature (length cipher)) (given_counts plain) (spoiled_counts InvalidSignature (length cipher) refl refl)
@@ -181,7 +181,7 @@ module _ (store : Store) (caller : ℕ) (call : Call) (P : Outcome → Type 0) (
   drawn_too random n (Err status) plain h = refused_too status (plain status refl)
 
   copy_shape : may_change_keys (OnStore call) ≡ true → (id : ℕ) (stated : Attributes) (found : Option Key) → map.get store.keys id ≡ found →
-      ((source : Key) → found ≡ Some source → source_of store (OnStore call) ≡ Some source.number) → P (created_unless store caller (recorded_copy store caller found stated) (bytes_of found))
+      ((source : Key) → found ≡ Some source → source_of store (OnStore call) ≡ Some source.number) → P (created_unless store caller (recorded_copy store caller found stated) (bytes_of_key found))
   copy_shape changes id stated None there number = refused_too InvalidHandle refl
   copy_shape changes id stated (Some source) there number =
       recorded_too (recorded_copy store caller (Some source) stated) source.bytes (copied_plainly store caller source stated) (λ kept e. cases.created_too kept source.bytes 0 changes (copied kept e))
@@ -228,7 +228,7 @@ store_shape store caller random (Import a bytes) P long cases = recorded_too sto
 }))
 store_shape store caller random (Export id room) P long cases =
     let found : Option Key = map.get store.keys id in
-    answered_too store caller _ P cases (first_row (export_rows found room)) (given (bytes_of found)) (exported found room) (given_counts (bytes_of found))
+    answered_too store caller _ P cases (first_row (export_rows found room)) (given (bytes_of_key found)) (exported found room) (given_counts (bytes_of_key found))
 store_shape store caller random (GetAttributes id) P long cases = replied store caller _ P cases _ (described (map.get store.keys id))
 store_shape store caller random (Destroy id) P long cases = decided_too store caller _ P cases _ (destroyed store id) (refuses_plainly (destroy_rows (map.get store.keys id) id) refl) (λ n. cases.destroyed_too id refl)
 store_shape store caller random (Purge id) P long cases = replied store caller _ P cases _ (purged (map.get store.keys id))
@@ -242,36 +242,36 @@ store_shape store caller random (HashCompare alg input hash) P long cases =
     answered_too store caller _ P cases (first_row (hashes.compare_rows alg input hash)) done (refuses_plainly (hashes.compare_rows alg input hash) refl) (success_counts done refl (λ a. refl))
 store_shape store caller random (MacCompute id alg input room) P long cases =
     let found : Option Key = map.get store.keys id in
-    used store caller _ P cases (first_row (use_rows true Mac 0x400 alg found)) (first_row (macs.compute_rows alg (length input) room)) (given (mac_of alg (bytes_of found) input))
-    (used_plainly true Mac 0x400 alg found) (refuses_plainly (macs.compute_rows alg (length input) room) refl) (given_counts (mac_of alg (bytes_of found) input))
+    used store caller _ P cases (first_row (use_rows true Mac 0x400 alg found)) (first_row (macs.compute_rows alg (length input) room)) (given (mac_of alg (bytes_of_key found) input))
+    (used_plainly true Mac 0x400 alg found) (refuses_plainly (macs.compute_rows alg (length input) room) refl) (given_counts (mac_of alg (bytes_of_key found) input))
 store_shape store caller random (MacVerify id alg input mac) P long cases =
     let found : Option Key = map.get store.keys id in
-    used store caller _ P cases (first_row (use_rows true Mac 0x800 alg found)) (first_row (macs.verify_rows alg (bytes_of found) input mac)) done
-    (used_plainly true Mac 0x800 alg found) (refuses_plainly (macs.verify_rows alg (bytes_of found) input mac) refl) (success_counts done refl (λ a. refl))
+    used store caller _ P cases (first_row (use_rows true Mac 0x800 alg found)) (first_row (macs.verify_rows alg (bytes_of_key found) input mac)) done
+    (used_plainly true Mac 0x800 alg found) (refuses_plainly (macs.verify_rows alg (bytes_of_key found) input mac) refl) (success_counts done refl (λ a. refl))
 store_shape store caller random (CipherEncrypt id alg input room) P long cases =
     let found : Option Key = map.get store.keys id in
     let mode : Mode = mode_of alg in
     let iv : List ℕ = random (iv_length mode) in
-    let text : Computed = record { reply = given (iv ++ enciphered mode (bytes_of found) iv input); drawn = iv_length mode } in
+    let text : Computed = record { reply = given (iv ++ enciphered mode (bytes_of_key found) iv input); drawn = iv_length mode } in
     let rows : Option Status = first_row (ciphers.encrypt_rows mode (length input) room) in
     computed_too store caller _ P cases (first_row (use_rows (is_ctr mode) Cipher 0x100 alg found)) (computed_unless rows text) (used_plainly (is_ctr mode) Cipher 0x100 alg found)
     (computed_counts rows text (refuses_plainly (ciphers.encrypt_rows mode (length input) room) refl)
-    (record { few = short_iv mode; undrawn = λ no. absurd (no refl); plain = refl; quiet = (given_counts (iv ++ enciphered mode (bytes_of found) iv input)).quiet }))
+    (record { few = short_iv mode; undrawn = λ no. absurd (no refl); plain = refl; quiet = (given_counts (iv ++ enciphered mode (bytes_of_key found) iv input)).quiet }))
 store_shape store caller random (CipherDecrypt id alg input room) P long cases =
     let found : Option Key = map.get store.keys id in
     let mode : Mode = mode_of alg in
     let n : ℕ = iv_length mode in
-    let text : Option (List ℕ) = deciphered mode (bytes_of found) (take n input) (drop n input) in
+    let text : Option (List ℕ) = deciphered mode (bytes_of_key found) (take n input) (drop n input) in
     used store caller _ P cases (first_row (use_rows (is_ctr mode) Cipher 0x200 alg found)) (first_row (ciphers.decrypt_rows mode (length input) room)) (plain_or_zeros (length input - n) text)
     (used_plainly (is_ctr mode) Cipher 0x200 alg found) (refuses_plainly (ciphers.decrypt_rows mode (length input) room) refl) (plain_counts (length input - n) text)
 store_shape store caller random (AeadEncrypt id alg nonce ad input room) P long cases =
     let found : Option Key = map.get store.keys id in
     used store caller _ P cases (first_row (use_rows false Aead 0x100 alg found)) (first_row (aeads.encrypt_rows alg (length nonce) (length ad) (length input) room))
-    (given (sealed alg (bytes_of found) nonce ad input)) (used_plainly false Aead 0x100 alg found) (refuses_plainly (aeads.encrypt_rows alg (length nonce) (length ad) (length input) room) refl)
-    (given_counts (sealed alg (bytes_of found) nonce ad input))
+    (given (sealed alg (bytes_of_key found) nonce ad input)) (used_plainly false Aead 0x100 alg found) (refuses_plainly (aeads.encrypt_rows alg (length nonce) (length ad) (length input) room) refl)
+    (given_counts (sealed alg (bytes_of_key found) nonce ad input))
 store_shape store caller random (AeadDecrypt id alg nonce ad input room) P long cases =
     let found : Option Key = map.get store.keys id in
     let n : ℕ = length input - tag_bytes alg in
     used store caller _ P cases (first_row (use_rows false Aead 0x200 alg found)) (first_row (aeads.decrypt_rows alg (length nonce) (length ad) (length input) room))
-    (opened alg (bytes_of found) nonce ad (take n input) (drop n input)) (used_plainly false Aead 0x200 alg found) (refuses_plainly (aeads.decrypt_rows alg (length nonce) (length ad) (length input) room) refl)
-    (opened_counts alg (bytes_of found) nonce ad (take n input) (drop n input))
+    (opened_text alg (bytes_of_key found) nonce ad (take n input) (drop n input)) (used_plainly false Aead 0x200 alg found) (refuses_plainly (aeads.decrypt_rows alg (length nonce) (length ad) (length input) room) refl)
+    (opened_counts alg (bytes_of_key found) nonce ad (take n input) (drop n input))

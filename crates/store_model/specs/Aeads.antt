@@ -47,15 +47,15 @@ decrypt_rows alg nonce ad input room =
     ∷ room_rows (input - tag_bytes alg) room
 
 -- what a tag opens, and zeros where it isn't the text's
-abbrev pub opened : ℕ → (key nonce ad cipher tag : List ℕ) → Reply
-opened alg key nonce ad cipher tag =
+abbrev pub opened_text : ℕ → (key nonce ad cipher tag : List ℕ) → Reply
+opened_text alg key nonce ad cipher tag =
     let plain : List ℕ = aead_text alg key nonce cipher in
     if bytes_eq tag (aead_tag alg key nonce ad plain cipher) then given plain else spoiled InvalidSignature (length cipher)
 
 abbrev pub opened_reply : ℕ → (key nonce ad input : List ℕ) → ℕ → Reply
 opened_reply alg key nonce ad input room =
     let n : ℕ = length input - tag_bytes alg in
-    reply_unless (first_row (decrypt_rows alg (length nonce) (length ad) (length input) room)) (opened alg key nonce ad (take n input) (drop n input))
+    reply_unless (first_row (decrypt_rows alg (length nonce) (length ad) (length input) room)) (opened_text alg key nonce ad (take n input) (drop n input))
 
 abbrev pub step_aead_decrypt : Store → (id alg : ℕ) → (nonce ad input : List ℕ) → ℕ → Outcome
 step_aead_decrypt store id alg nonce ad input room = using_key store false Aead (cipher_usage false) alg id (λ key. replies (opened_reply alg key nonce ad input room))

@@ -4,7 +4,7 @@ use Rattle.std.specs.Option.{option_map_or}
 use Rattle.sha2.specs.Sha256.{sha224, sha256}
 use Rattle.sha2.specs.Sha512.{sha384, sha512}
 use Rattle.alg_encoding.specs.Encoding.{base_of, tag_length_of}
-use Rattle.alg_encoding.specs.Table.{hash_length}
+use Rattle.alg_encoding.specs.Table.{named_hash_length}
 use Rattle.crypto_specs.specs.Prelude.{aes_encrypt, cmac, hmac}
 
 -- the hash function of an algorithm number's low byte (FIPS 180-4)
@@ -25,7 +25,7 @@ abbrev pub hash_of : ℕ → List ℕ → List ℕ
 hash_of alg message = digest (low_byte alg) message
 
 abbrev pub hash_length_of : ℕ → ℕ
-hash_length_of alg = hash_length (low_byte alg)
+hash_length_of alg = named_hash_length (low_byte alg)
 
 abbrev pub cmac_base : ℕ
 cmac_base = 0x03c00200

@@ -2,7 +2,7 @@
 use Rattle.std.specs.Prelude.{ℕ, Bool, not, ◌&&◌, ◌||◌, ◌==◌, [], ◌∷◌, length, bit_and, Option, Some, None, ok_or, Result, Err}
 use Rattle.std.specs.FinMap as map
 use Rattle.store_model.specs.Common.{Attributes, InvalidArgument, InvalidHandle, Key, NotPermitted, NotSupported, Outcome, Policy, Rows, Status, Store, first_row, location, meet_of, unless, ◌>>=◌}
-use Rattle.store_model.specs.KeyUse.{bytes_of}
+use Rattle.store_model.specs.KeyUse.{bytes_of_key}
 use Rattle.store_model.specs.Creation.{recorded_of, created_unless}
 
 -- a stated number, where 0 states none, that isn't the source's
@@ -32,4 +32,4 @@ recorded_copy store caller (Some source) stated = do
 abbrev pub step_copy : Store → ℕ → ℕ → Attributes → Outcome
 step_copy store caller source stated =
     let found : Option Key = map.get store.keys source in
-    created_unless store caller (recorded_copy store caller found stated) (bytes_of found)
+    created_unless store caller (recorded_copy store caller found stated) (bytes_of_key found)

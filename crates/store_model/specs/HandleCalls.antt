@@ -4,7 +4,7 @@ use Rattle.store_model.specs.Common.{Attributes, BadState, Class, InsufficientDa
 use Rattle.std.specs.FinMap as map
 use Rattle.alg_encoding.specs.declared.table.Class.TheVariants as class
 use Rattle.store_model.specs.Rules.{class_rows, use_rows, mac_usage, cipher_usage}
-use Rattle.store_model.specs.KeyUse.{bytes_of}
+use Rattle.store_model.specs.KeyUse.{bytes_of_key}
 use Rattle.store_model.specs.Creation.{recorded_of, created}
 use Rattle.store_model.specs.Operations.{Operation, Active, After, set_up, fails, ends, goes_on, unless_failed, with_live_key}
 use Rattle.store_model.specs.HashOperations.{HashStep, hash_work, hash_step}
@@ -51,7 +51,7 @@ creation_of id found = option_map (λ key. record { id = id; number = key.number
 abbrev pub set_up_keyed : Service → (caller handle : ℕ) → Class → (usage alg id : ℕ) → (List ℕ → Work) → Served
 set_up_keyed service caller handle class usage alg id work =
     let found : Option Key = map.get service.store.keys id in
-    set_up_with service caller handle (first_row (use_rows false class usage alg found)) (creation_of id found) (work (bytes_of found))
+    set_up_with service caller handle (first_row (use_rows false class usage alg found)) (creation_of id found) (work (bytes_of_key found))
 
 -- A KEY AS THE SECRET OF A DERIVATION: the flag DERIVE, the type DERIVE, or PASSWORD at a password step, and no device's
 
@@ -78,7 +78,7 @@ input_key service caller handle (Active w) step id =
     let key : Option KeyCreation = key_of_operation (operation_of service caller handle) in
     let found : Option Key = map.get service.store.keys id in
     applied service caller handle (held_after (creation_of id found) Deriving (with_live_key (is_alive service.store key)
-    (unless_failed (first_row (input_key_rows w found step)) (goes_on (with_key w (bytes_of found)) done))))
+    (unless_failed (first_row (input_key_rows w found step)) (goes_on (with_key w (bytes_of_key found)) done))))
 input_key service caller handle _ step id = untouched service BadState
 
 -- A KEY OF DERIVED BYTES

@@ -12,11 +12,11 @@ export_rows (Some key) room =
     ∷ (nat_lt room (length key.bytes), BufferTooSmall)
     ∷ []
 
-abbrev pub bytes_of : Option Key → List ℕ
-bytes_of found = option_map_or (λ key. key.bytes) found []
+abbrev pub bytes_of_key : Option Key → List ℕ
+bytes_of_key found = option_map_or (λ key. key.bytes) found []
 
 abbrev pub export_reply : Option Key → ℕ → Reply
-export_reply found room = reply_unless (first_row (export_rows found room)) (given (bytes_of found))
+export_reply found room = reply_unless (first_row (export_rows found room)) (given (bytes_of_key found))
 
 abbrev pub step_export : Store → ℕ → ℕ → Outcome
 step_export store id room = with_computed store (replies (export_reply (map.get store.keys id) room))

@@ -9,7 +9,7 @@ pub use Rattle.store_model.specs.Rules.{cipher_usage, class_number, class_rows, 
 pub use Rattle.store_model.specs.Creation.{created, created_unless, file_rows, identified, made_with, new_id, new_key, recorded_of, room_for_key_rows, stated_bits_rows}
 pub use Rattle.store_model.specs.Copies.{copy_attributes, differs, recorded_copy, source_rows, step_copy}
 pub use Rattle.store_model.specs.Generation.{generated, generation_of}
-pub use Rattle.store_model.specs.KeyUse.{attributes_reply, bytes_of, destroy_rows, destroyed, export_reply, export_rows, purge_reply, step_destroy}
+pub use Rattle.store_model.specs.KeyUse.{attributes_reply, bytes_of_key, destroy_rows, destroyed, export_reply, export_rows, purge_reply, step_destroy}
 pub use Rattle.store_model.specs.Hashes.{compared_reply, hash_reply}
 pub use Rattle.store_model.specs.Macs.{compute_rows, mac_reply, verified_reply}
 pub use Rattle.store_model.specs.Ciphers.{CbcNoPadding, CbcPkcs7, Ctr, EcbNoPadding, Mode, deciphered, decrypt_rows, decrypted_reply, enciphered, enciphered_length, encrypt_rows, encrypted, is_ciphertext_length, is_ctr, iv_length, mode_of, plain_or_zeros, takes_whole_blocks}

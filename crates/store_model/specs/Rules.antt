@@ -3,7 +3,7 @@ use Rattle.store_model.specs.Common.{BufferTooSmall, Class, Computed, InvalidArg
 use Rattle.std.specs.FinMap as map
 use Rattle.std.specs.Prelude.{ℕ, ◌-◌, ◌^◌, Bool, true, false, not, nat_lt, ◌&&◌, ◌==◌, [], ◌∷◌, ◌++◌, Option, Some, None, is_some, if◌then◌else◌, List}
 use Rattle.alg_encoding.specs.declared.table.Class.TheVariants as class
-use Rattle.store_model.specs.KeyUse.{bytes_of}
+use Rattle.store_model.specs.KeyUse.{bytes_of_key}
 
 -- the classes are told apart by a number each
 abbrev pub class_number : Class → ℕ
@@ -48,7 +48,7 @@ use_rows on_device class usage alg (Some key) =
 abbrev pub using_key : Store → (on_device : Bool) → Class → (usage alg id : ℕ) → (List ℕ → Computed) → Outcome
 using_key store on_device class usage alg id compute =
     let found : Option Key = map.get store.keys id in
-    with_computed store (computed_unless (first_row (use_rows on_device class usage alg found)) (compute (bytes_of found)))
+    with_computed store (computed_unless (first_row (use_rows on_device class usage alg found)) (compute (bytes_of_key found)))
 
 -- no input is longer than 2^32 - 1 bytes
 abbrev pub total_limit : ℕ

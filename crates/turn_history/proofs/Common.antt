@@ -5,9 +5,9 @@ pub use Rattle.std.proofs.lemmas.List.Elements.{All-append, All-cons, All-nil}
 pub use Rattle.turn_history.specs.Boxed.{boxed_base, boxed_stands}
 pub use Rattle.turn_history.specs.Closing.{Closing}
 pub use Rattle.turn_history.specs.History.{StartsWith, calls_by, choose, entries_of, option_list}
-pub use Rattle.turn_history.specs.Holdings.{Holding, own_of, with_own}
+pub use Rattle.turn_history.specs.Holdings.{Holding, held_by, with_held_by}
 pub use Rattle.turn_history.specs.Passes.{AreNew, IsIdle, accounts_of, weight_of}
-pub use Rattle.turn_history.specs.Rule.{Away, Course, Home, Kept, Knows, Owned, Remembers, total}
+pub use Rattle.turn_history.specs.Rule.{Away, LockState, Home, Kept, Knows, Owned, Remembers, total}
 pub use Rattle.turn_history.specs.Steps.{Found, came, compared, drawn, ended, fronted, looked}
 pub use Rattle.turn_history.specs.Views.{CanEnter, Mine, TURNS, account, account_of, after_making, after_turn, entered, first_view, gathering, in_its_turn_at, longer, made_pass, maker_of, merged, new_pass, spent, watcher, with_ticket}
 pub use Rattle.turn_history.specs.declared.pass.Account.{Account}

@@ -1,13 +1,13 @@
 -- The rule at the making and at the end of a lock.
 use Rattle.std.proofs.Common.{List, Option, Some, [], ap, arith, false, get_or, inl, inr, length, refl, replicate, subst, suc, sym, zero, ℕ, ⊎_elim, ◌++◌, ◌-◌, ◌<◌, ◌∙◌, ◌∷◌, ◌≡◌, ◌≢◌, ◌≤◌}
-use Rattle.turn_history.proofs.Common.{All-nil, Away, Closing, Course, Enters, Final, Holding, Home, Kept, Knows, Mine, Seen, View, at_longer, at_set, came, dite, entries_of, first_view, get_elem?, length-replicate, none, opening, own_of, some, some-ne-none, spent, step, ℕ_discrete}
+use Rattle.turn_history.proofs.Common.{All-nil, Away, Closing, LockState, Enters, Final, Holding, Home, Kept, Knows, Mine, Seen, View, at_longer, at_set, came, dite, entries_of, first_view, get_elem?, length-replicate, none, opening, held_by, some, some-ne-none, spent, step, ℕ_discrete}
 use mathlib.Core.Option as maybe
 use Rattle.turn_history.proofs.Lists.{at_snoc_end, total_two, total_snoc}
 use Rattle.turn_history.proofs.Keeping.{Signed, knows_nothing, no_pass, place_kept, same_at, some_same}
 
 module _ {V E B : Type 0} (by : E → ℕ) (stands : V → List E → List Holding → Type 0) (base : V → B) (key : B) (passes : ℕ) where
   pub opens : (x : V) → 0 < passes → passes ≤ 16 → stands x [] (replicate passes []) → base x ≡ key → Kept by stands base key passes (opening (0 ∷ 0 ∷ []) (Some x ∷ []) (first_view key passes))
-  opens x some_passes few stood same = let r : Course E B = record { turns = []; holdings = replicate passes []; tickets = 0; made = 0; maker = 0; seat = λ _. 0; holder = λ _. 0; base = key } in let first : View E B = first_view key passes in record {
+  opens x some_passes few stood same = let r : LockState E B = record { turns = []; holdings = replicate passes []; tickets = 0; made = 0; maker = 0; seat = λ _. 0; holder = λ _. 0; base = key } in let first : View E B = first_view key passes in record {
     course = r;
     words = refl;
     order = omega arith;
@@ -53,7 +53,7 @@ module _ {V E B : Type 0} (by : E → ℕ) (stands : V → List E → List Holdi
     (refl, refl, refl, refl, refl, refl),
   )
 
-  empties : (all : List Holding) → ((n : ℕ) → 0 < n → own_of all n ≡ []) → all ≡ replicate (length all) []
+  empties : (all : List Holding) → ((n : ℕ) → 0 < n → held_by all n ≡ []) → all ≡ replicate (length all) []
   empties [] none_out = refl
   empties (x ∷ xs) none_out = λ i. none_out 1 (omega arith) i ∷ empties xs (λ n some_n. ap (λ (k : ℕ). get_or (x ∷ xs) k []) (back n some_n) ∙ none_out (suc n) (omega arith)) i
     where

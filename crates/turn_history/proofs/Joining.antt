@@ -1,6 +1,6 @@
 -- A join keeps the rule.
 use Rattle.std.proofs.Common.{All, List, Option, [], ap, arith, cond, false, get_or, inl, inr, length, length-append, refl, set, subst, suc, sym, true, true≢false, ℕ, ⊎_elim, ◌++◌, ◌+◌, ◌<◌, ◌∙◌, ◌∷◌, ◌≡◌, ◌≢◌, ◌⊎◌}
-use Rattle.turn_history.proofs.Common.{Account, All-append, All-cons, All-nil, Allows, Course, Holding, Joins, Kept, Knows, Mine, Remembers, StartsWith, State, View, account, at_set, calls_by, compared, dec_lt, dite, entries_of, gathering, get_elem?, keeps, longer, merged, none, own_of, set_else, some, spent, step, ℕ_discrete}
+use Rattle.turn_history.proofs.Common.{Account, All-append, All-cons, All-nil, Allows, LockState, Holding, Joins, Kept, Knows, Mine, Remembers, StartsWith, State, View, account, at_set, calls_by, compared, dec_lt, dite, entries_of, gathering, get_elem?, keeps, longer, merged, none, held_by, set_else, some, spent, step, ℕ_discrete}
 use Rattle.std.proofs.lemmas.Bool.{le-ltb, lt-ltb}
 use Rattle.turn_history.proofs.Lists.{put, put_here, put_else, two_beginnings, between, total_set}
 use Rattle.turn_history.proofs.Keeping.{loaded, quiet, later, place_kept, place_stays, knows_nothing, all_set, nobody_still, same_at, there_still}
@@ -17,7 +17,7 @@ module _ {V E B : Type 0} (by : E → ℕ) (stands : V → List E → List Holdi
       → both.number ≡ v.number → both.in_turn ≡ v.in_turn → both.turns_left ≡ v.turns_left + w.turns_left → both.weight ≡ v.weight + w.weight → w.in_turn ≡ false → w.holding ≡ []
       → ((n : ℕ) → 0 < n → n ≢ w.number → seat' n ≡ k.course.seat n) → Knows by (record k.course { seat = seat' }) id both
       → Kept by stands base key passes record { words = s.words; homes = s.homes; views = set (set s.views id both) other spent }
-  joins_kept s k id other v w both seat' at apart there number turn left weight idle empty seats mine = let r = k.course in let r' : Course E B = record r { seat = seat' } in let vs : List (View E B) = set s.views id both in
+  joins_kept s k id other v w both seat' at apart there number turn left weight idle empty seats mine = let r = k.course in let r' : LockState E B = record r { seat = seat' } in let vs : List (View E B) = set s.views id both in
       let there' : get_elem? vs other ≡ some w = set_else s.views id other both apart ∙ there in let theirs_w = k.each other w there in
       let foreign : (n j : ℕ) → 0 < n → r.seat n ≡ j → j ≢ other → n ≢ w.number = λ n j some_n is ne same. let nu = theirs_w.numbered (omega arith) in ne (sym is ∙ (ap r.seat same ∙ nu.0)) in record {
         course = r';
@@ -29,7 +29,7 @@ module _ {V E B : Type 0} (by : E → ℕ) (stands : V → List E → List Holdi
         based = k.based;
         signed = k.signed;
         owned = λ m some_m. dite (ℕ_discrete m w.number)
-            (λ e. inl (ap (own_of r.holdings) e ∙ (theirs_w.has (omega arith) ∙ empty)))
+            (λ e. inl (ap (held_by r.holdings) e ∙ (theirs_w.has (omega arith) ∙ empty)))
             (λ ne. ⊎_elim (λ e. inl e)
             (λ (x : (u : View E B) × (get_elem? s.views (r.seat m) ≡ some u) × (u.number ≡ m)). let z = there_still by stands base key passes (λ (u : View E B). u.number ≡ m) s.views id (r.seat m) v both x.0 at (λ e. number ∙ e) x.1 x.2 in
             let far : r.seat m ≢ other = λ e. ne (sym x.2 ∙ ap (λ (y : View E B). y.number) (same_at by stands base key passes s.views other (r.seat m) w x.0 there x.1 e)) in
@@ -81,7 +81,7 @@ module _ {V E B : Type 0} (by : E → ℕ) (stands : V → List E → List Holdi
 
   pub gathers : (id other : ℕ) (v w : View E B) → v.number ≡ 0 → w.in_turn ≡ false → w.holding ≡ [] → Joins (Kept by stands base key passes) id v other w (gathering v w) spent
   gathers id other v w watching idle empty s k at apart e = let there = was_there s.views id other (gathering v w) w apart e in let r = k.course in let mine = k.each id v at in let theirs = k.each other w there in
-      let seat' : ℕ → ℕ = put r.seat w.number id in let r' : Course E B = record r { seat = seat' } in
+      let seat' : ℕ → ℕ = put r.seat w.number id in let r' : LockState E B = record r { seat = seat' } in
       joins_kept s k id other v w (gathering v w) seat' at apart there refl refl refl refl idle empty (λ n _ ne. put_else r.seat w.number id n ne)
       record {
         seen = mine.seen;

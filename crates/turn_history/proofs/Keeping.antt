@@ -1,6 +1,6 @@
 -- What a step leaves of the rule.
 use Rattle.std.proofs.Common.{All, Bool, List, None, Option, Some, [], ap, arith, false, get_or, inl, inr, length, refl, set, subst, sym, true, true≢false, ℕ, ⊎_elim, ◌+◌, ◌<◌, ◌∙◌, ◌∷◌, ◌≡◌, ◌≢◌, ◌≤◌, ◌⊎◌}
-use Rattle.turn_history.proofs.Common.{All-nil, Away, Course, Holding, Home, Kept, Knows, Owned, Remembers, StartsWith, State, View, at_set, dite, entries_of, get_elem?, set-get_or, set_again, set_else, some, some-injective, spent, ℕ_discrete}
+use Rattle.turn_history.proofs.Common.{All-nil, Away, LockState, Holding, Home, Kept, Knows, Owned, Remembers, StartsWith, State, View, at_set, dite, entries_of, get_elem?, set-get_or, set_again, set_else, some, some-injective, spent, ℕ_discrete}
 use mathlib.Core.Option as maybe
 use Rattle.turn_history.proofs.Lists.{at_here, total_set}
 
@@ -19,7 +19,7 @@ first_carried [] = None
 first_carried (x ∷ xs) = x.1
 
 module _ {V E B : Type 0} (by : E → ℕ) (stands : V → List E → List Holding → Type 0) (base : V → B) (key : B) (passes : ℕ) where
-  pub all_set : (r : Course E B) (views : List (View E B)) (me : ℕ) (w : View E B) → Knows by r me w → ((j : ℕ) (u : View E B) → j ≢ me → get_elem? views j ≡ some u → Knows by r j u) → (j : ℕ) (u : View E B) → get_elem? (set views me w) j ≡ some u → Knows by r j u
+  pub all_set : (r : LockState E B) (views : List (View E B)) (me : ℕ) (w : View E B) → Knows by r me w → ((j : ℕ) (u : View E B) → j ≢ me → get_elem? views j ≡ some u → Knows by r j u) → (j : ℕ) (u : View E B) → get_elem? (set views me w) j ≡ some u → Knows by r j u
   all_set r views me w mine others j u e = ⊎_elim (λ (x : (j ≡ me) × (w ≡ u)). subst (λ (y : ℕ × View E B). Knows by r y.0 y.1) (λ i. (sym x.0 i, x.1 i)) mine)
       (λ (x : (j ≢ me) × (get_elem? views j ≡ some u)). others j u x.0 x.1) (at_set views me j w u e)
 
@@ -35,11 +35,11 @@ module _ {V E B : Type 0} (by : E → ℕ) (stands : V → List E → List Holdi
       (λ e. (w, subst (λ (i : ℕ). get_elem? (set views me w) i ≡ some w) (sym e) (at_here views me v w at), same (subst P (same_at views me who v u at there e) on)))
       (λ ne. (u, set_else views me who w ne ∙ there, on))
 
-  pub owned_still : (r : Course E B) (views : List (View E B)) (me : ℕ) (v w : View E B) → get_elem? views me ≡ some v → w.number ≡ v.number → (n : ℕ) → Owned by stands base r views n → Owned by stands base r (set views me w) n
+  pub owned_still : (r : LockState E B) (views : List (View E B)) (me : ℕ) (v w : View E B) → get_elem? views me ≡ some v → w.number ≡ v.number → (n : ℕ) → Owned by stands base r views n → Owned by stands base r (set views me w) n
   owned_still r views me v w at same n has = ⊎_elim (λ e. inl e) (λ (x : (u : View E B) × (get_elem? views (r.seat n) ≡ some u) × (u.number ≡ n)). inr (there_still (λ (u : View E B). u.number ≡ n) views me (r.seat n) v w x.0 at (λ e. same ∙ e) x.1 x.2)) has
 
   -- the value stays where it is, where a view is in its turn after a step only if one was, and one still is
-  pub place_kept : (s : State (Option V) (View E B)) (r r' : Course E B) (words : List ℕ) (views : List (View E B)) → r'.turns ≡ r.turns → r'.holdings ≡ r.holdings → r'.base ≡ r.base
+  pub place_kept : (s : State (Option V) (View E B)) (r r' : LockState E B) (words : List ℕ) (views : List (View E B)) → r'.turns ≡ r.turns → r'.holdings ≡ r.holdings → r'.base ≡ r.base
       → (((j : ℕ) (u : View E B) → get_elem? s.views j ≡ some u → u.in_turn ≡ false) → (j : ℕ) (u : View E B) → get_elem? views j ≡ some u → u.in_turn ≡ false)
       → ((j : ℕ) (u : View E B) → get_elem? s.views j ≡ some u → u.in_turn ≡ true → (z : View E B) × (get_elem? views j ≡ some z) × (z.in_turn ≡ true)) → Home by stands base r s ⊎ Away by stands base s
       → Home by stands base r' record { words = words; homes = s.homes; views = views } ⊎ Away by stands base record { words = words; homes = s.homes; views = views }
@@ -54,8 +54,8 @@ module _ {V E B : Type 0} (by : E → ℕ) (stands : V → List E → List Holdi
       (λ (h : Away by stands base s). let z = busy h.who h.view h.there h.turns_now in inr record { away = h.away; who = h.who; view = z.0; there = z.1; turns_now = z.2 }) place
 
   -- so it does where the pass keeps whether it is in its turn
-  pub place_stays : (s : State (Option V) (View E B)) (r : Course E B) (words : List ℕ) (me : ℕ) (v w : View E B) → get_elem? s.views me ≡ some v → w.in_turn ≡ v.in_turn
-      → (r' : Course E B) → r'.turns ≡ r.turns → r'.holdings ≡ r.holdings → r'.base ≡ r.base → Home by stands base r s ⊎ Away by stands base s
+  pub place_stays : (s : State (Option V) (View E B)) (r : LockState E B) (words : List ℕ) (me : ℕ) (v w : View E B) → get_elem? s.views me ≡ some v → w.in_turn ≡ v.in_turn
+      → (r' : LockState E B) → r'.turns ≡ r.turns → r'.holdings ≡ r.holdings → r'.base ≡ r.base → Home by stands base r s ⊎ Away by stands base s
       → Home by stands base r' record { words = words; homes = s.homes; views = set s.views me w } ⊎ Away by stands base record { words = words; homes = s.homes; views = set s.views me w }
   place_stays s r words me v w at same r' t a b = place_kept s r r' words (set s.views me w) t a b (λ nobody. nobody_still s.views me w (same ∙ nobody me v at) (λ j u _ e. nobody j u e))
       (λ j u. there_still (λ (u : View E B). u.in_turn ≡ true) s.views me j v w u at (λ e. same ∙ e))
@@ -63,15 +63,15 @@ module _ {V E B : Type 0} (by : E → ℕ) (stands : V → List E → List Holdi
   abbrev pub Signed : ℕ → E → Type 0
   Signed made e = (0 < by e) × (by e ≤ made)
 
-  abbrev pub later : Course E B → ℕ → (ℕ → ℕ) → Course E B
+  abbrev pub later : LockState E B → ℕ → (ℕ → ℕ) → LockState E B
   later r t h = record r { tickets = t; holder = h }
 
-  pub others_quiet : (r : Course E B) (t : ℕ) (h : ℕ → ℕ) (j : ℕ) (u : View E B) → r.tickets ≤ t → ((x : ℕ) → x < r.tickets → h x ≡ r.holder x) → Knows by r j u → Knows by (later r t h) j u
+  pub others_quiet : (r : LockState E B) (t : ℕ) (h : ℕ → ℕ) (j : ℕ) (u : View E B) → r.tickets ≤ t → ((x : ℕ) → x < r.tickets → h x ≡ r.holder x) → Knows by r j u → Knows by (later r t h) j u
   others_quiet r t h j u more same k =
       let waits : (x : ℕ) → u.ticket ≡ Some x → (length r.turns ≤ x) × (x < t) × (h x ≡ j) × (0 < u.number) = λ x e. let a = k.waits x e in let lt = a.1 in (a.0, omega arith, same x lt ∙ a.2, a.3) in assumption
 
   -- what is on a seat that is no pass's
-  pub no_pass : (r : Course E B) (j : ℕ) (w : View E B) → StartsWith r.turns w.seen → ((b : B) → w.base ≡ Some b → b ≡ r.base) → w.number ≡ 0 → w.ticket ≡ None → w.in_turn ≡ false
+  pub no_pass : (r : LockState E B) (j : ℕ) (w : View E B) → StartsWith r.turns w.seen → ((b : B) → w.base ≡ Some b → b ≡ r.base) → w.number ≡ 0 → w.ticket ≡ None → w.in_turn ≡ false
       → (0 < w.next_number → (w.next_number ≡ r.made + 1) × (r.maker ≡ j)) → w.accounts ≡ [] → Knows by r j w
   no_pass r j w seen based nobody none out makes bare = record {
     seen = seen;
@@ -85,7 +85,7 @@ module _ {V E B : Type 0} (by : E → ℕ) (stands : V → List E → List Holdi
     accounts = subst (All (Remembers by r.turns r.seat r.made j w.number)) (sym bare) (All-nil (Remembers by r.turns r.seat r.made j w.number));
   }
 
-  pub knows_nothing : (r : Course E B) (j : ℕ) → Knows by r j spent
+  pub knows_nothing : (r : LockState E B) (j : ℕ) → Knows by r j spent
   knows_nothing r j = no_pass r j spent (r.turns, refl) (λ b e. absurd (some_is_not b e)) refl refl refl (λ z. absurd (omega arith)) refl
 
   -- a step that ends no turn

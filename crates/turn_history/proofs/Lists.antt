@@ -2,7 +2,7 @@
 
 use Rattle.std.proofs.Common.{All, List, None, Option, Some, [], ap, append-nil, append_assoc, arith, cond, eq-eqb, eqb, false, get_or, get_or-set_other, get_or-set_same, inl, inr, length, length-append, map, ne_eqb, refl, set, subst, suc, sym, true, zero, ℕ, ⊎_elim, ◌++◌, ◌+◌, ◌-◌, ◌<◌, ◌∙◌, ◌∷◌, ◌≡◌, ◌≢◌, ◌≤◌, ◌⊎◌}
 use Rattle.std.proofs.lemmas.List.{nil_from_length}
-use Rattle.turn_history.proofs.Common.{Holding, StartsWith, calls_by, choose, entries_of, get_elem?, option_list, own_of, some, some-injective, some-ne-none, total, with_own}
+use Rattle.turn_history.proofs.Common.{Holding, StartsWith, calls_by, choose, entries_of, get_elem?, option_list, held_by, some, some-injective, some-ne-none, total, with_held_by}
 
 pub put : (ℕ → ℕ) → ℕ → ℕ → ℕ → ℕ
 put f i c j = cond (eqb j i) c (f j)
@@ -99,10 +99,10 @@ module _ {E : Type 0} where
     pub calls_snoc_other : (ts : List (Option E)) (e : Option E) → ((x : E) → e ≡ Some x → by x ≢ n) → calls_by by n (entries_of (ts ++ e ∷ [])) ≡ calls_by by n (entries_of ts)
     calls_snoc_other ts e other = ap (calls_by by n) (entries-append ts (e ∷ []) ∙ ap (λ l. entries_of ts ++ l) (entries_one e)) ∙ (calls-append (entries_of ts) (option_list e) ∙ (ap (λ l. calls_by by n (entries_of ts) ++ l) (calls_other e other) ∙ append-nil (calls_by by n (entries_of ts))))
 
-pub own_here : (all : List Holding) (n : ℕ) (own : Holding) → 0 < n → n ≤ length all → own_of (with_own all n own) n ≡ own
+pub own_here : (all : List Holding) (n : ℕ) (own : Holding) → 0 < n → n ≤ length all → held_by (with_held_by all n own) n ≡ own
 own_here all n own some_n inside = get_or-set_same all (n - 1) own [] (omega arith)
 
-pub own_else : (all : List Holding) (n m : ℕ) (own : Holding) → 0 < n → 0 < m → m ≢ n → own_of (with_own all n own) m ≡ own_of all m
+pub own_else : (all : List Holding) (n m : ℕ) (own : Holding) → 0 < n → 0 < m → m ≢ n → held_by (with_held_by all n own) m ≡ held_by all m
 own_else all n m own a b apart = get_or-set_other all (n - 1) (m - 1) own [] (λ e. apart (omega arith))
 
 no_more : {A : Type 0} (xs ys : List A) → xs ++ ys ≡ xs → ys ≡ []

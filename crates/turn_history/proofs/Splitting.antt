@@ -1,6 +1,6 @@
 -- A split keeps the rule.
 use Rattle.std.proofs.Common.{List, Option, Some, [], ap, arith, false, get_or, inl, inr, length, length-set, refl, set, subst, sym, true, true≢false, ℕ, ⊎_elim, ◌++◌, ◌+◌, ◌<◌, ◌∙◌, ◌∷◌, ◌≡◌, ◌≢◌, ◌≤◌, ◌⊎◌}
-use Rattle.turn_history.proofs.Common.{All-nil, Course, Holding, Kept, Knows, Splits, StartsWith, State, TURNS, View, after_making, at_longer, calls_by, dite, entries_of, get_elem?, made_pass, own_of, Remembers, some, watcher, ℕ_discrete}
+use Rattle.turn_history.proofs.Common.{All-nil, LockState, Holding, Kept, Knows, Splits, StartsWith, State, TURNS, View, after_making, at_longer, calls_by, dite, entries_of, get_elem?, made_pass, held_by, Remembers, some, watcher, ℕ_discrete}
 use Rattle.turn_history.proofs.Lists.{put, put_here, put_else, at_snoc_end, between, no_calls, total_set, total_snoc}
 use Rattle.turn_history.proofs.Keeping.{some_is_not, all_set, nobody_still, there_still, no_pass, place_kept}
 
@@ -12,7 +12,7 @@ module _ {V E B : Type 0} (by : E → ℕ) (stands : V → List E → List Holdi
       → ((j : ℕ) (u : View E B) → j ≢ id → get_elem? s.views j ≡ some u → 0 < u.next_number → made' ≡ k.course.made)
       → Knows by (record k.course { made = made'; seat = seat' }) id l → Knows by (record k.course { made = made'; seat = seat' }) (length s.views) n
       → Kept by stands base key passes record { words = s.words; homes = s.homes; views = set s.views id l ++ n ∷ [] }
-  splits_kept s k id v l n made' seat' at number turn idle left weight more few seats fresh makers mine new = let r = k.course in let r' : Course E B = record r { made = made'; seat = seat' } in let vs : List (View E B) = set s.views id l in record {
+  splits_kept s k id v l n made' seat' at number turn idle left weight more few seats fresh makers mine new = let r = k.course in let r' : LockState E B = record r { made = made'; seat = seat' } in let vs : List (View E B) = set s.views id l in record {
     course = r';
     words = k.words;
     order = k.order;
@@ -50,8 +50,8 @@ module _ {V E B : Type 0} (by : E → ℕ) (stands : V → List E → List Holdi
   makes_one id v b is_based nobody some_next few weight left out s k at = let mine = k.each id v at in let size = k.sized in let r = k.course in let mk = mine.makes some_next in let next = mk.0 in let seat' : ℕ → ℕ = put r.seat v.next_number (length s.views) in
       let base_is : v.base ≡ Some r.base = is_based ∙ ap (λ (x : B). let y : Option B = Some x in y) (mine.based b is_based) in
       let keep : (m : ℕ) → m ≤ r.made → seat' m ≡ r.seat m = λ m le. put_else r.seat v.next_number (length s.views) m (λ e. omega arith) in
-      let r' : Course E B = record r { made = r.made + 1; seat = seat' } in
-      let unused : own_of r.holdings v.next_number ≡ [] = ⊎_elim (λ e. e) (λ (x : (u : View E B) × (get_elem? s.views (r.seat v.next_number) ≡ some u) × (u.number ≡ v.next_number)). let is = x.2 in let a = (k.each (r.seat v.next_number) x.0 x.1).numbered (omega arith) in let le = a.1 in absurd (omega arith)) (k.owned v.next_number some_next) in
+      let r' : LockState E B = record r { made = r.made + 1; seat = seat' } in
+      let unused : held_by r.holdings v.next_number ≡ [] = ⊎_elim (λ e. e) (λ (x : (u : View E B) × (get_elem? s.views (r.seat v.next_number) ≡ some u) × (u.number ≡ v.next_number)). let is = x.2 in let a = (k.each (r.seat v.next_number) x.0 x.1).numbered (omega arith) in let le = a.1 in absurd (omega arith)) (k.owned v.next_number some_next) in
       let silent : calls_by by v.next_number (entries_of r.turns) ≡ [] = no_calls by v.next_number r.made (entries_of r.turns) (omega arith) k.signed in
       splits_kept s k id v (after_making v) (made_pass v) (r.made + 1) seat' at refl refl refl (omega arith) (omega arith) (omega arith) (omega arith) keep
       (λ m lt. dite (ℕ_discrete m v.next_number) (λ e. inr (sym e, subst (λ (x : ℕ). seat' x ≡ length s.views) (sym e) (put_here r.seat v.next_number (length s.views)))) (λ ne. inl (put_else r.seat v.next_number (length s.views) m ne)))

@@ -1,6 +1,6 @@
 -- Each step of a turn keeps the rule.
 use Rattle.std.proofs.Common.{All, Bool, List, None, Option, Some, [], ap, arith, false, get_or, inl, inr, length, length-append, length-set, refl, set, subst, sym, true, true≢false, ℕ, ⊎_elim, ◌%◌, ◌++◌, ◌+◌, ◌-◌, ◌<◌, ◌^◌, ◌∙◌, ◌∷◌, ◌≡◌, ◌≢◌, ◌≤◌}
-use Rattle.turn_history.proofs.Common.{All-append, All-cons, All-nil, Allows, Away, CanEnter, Course, Found, Holding, Home, Kept, Knows, Mine, StartsWith, View, after_turn, calls_by, dite, drawn, ended, entered, entries_of, fronted, get_elem?, gives, homes_after, in_its_turn_at, keeps, looked, none, option_list, rest, some, step, takes, with_own, with_ticket, ℕ_discrete}
+use Rattle.turn_history.proofs.Common.{All-append, All-cons, All-nil, Allows, Away, CanEnter, LockState, Found, Holding, Home, Kept, Knows, Mine, StartsWith, View, after_turn, calls_by, dite, drawn, ended, entered, entries_of, fronted, get_elem?, gives, homes_after, in_its_turn_at, keeps, looked, none, option_list, rest, some, step, takes, with_held_by, with_ticket, ℕ_discrete}
 use mathlib.Core.Option as maybe
 use Rattle.turn_history.proofs.Lists.{put, put_here, put_else, begins_itself, begins_longer, at_here, total_set, entries-append, entries_one, calls_snoc_own, calls_snoc_other, own_here, own_else}
 use Rattle.turn_history.proofs.Keeping.{Signed, some_same, some_is_not, not_true, first_carried, all_set, nobody_still, same_at, there_still, place_stays, later, quiet, loaded, still}
@@ -12,7 +12,7 @@ module _ {V E B : Type 0} (by : E → ℕ) (stands : V → List E → List Holdi
       let e = total_set (λ (u : View E B). u.turns_left) s.views id v (record v { turns_left = 0 }) at in let f = k.fuel in let o = k.order in
       let next : (n + 1) % 18446744073709551616 ≡ T + 1 = omega arith in
       let ws : set s.words 1 ((n + 1) % 18446744073709551616) ≡ length r.turns ∷ (T + 1) ∷ [] = ap (λ (l : List ℕ). set l 1 ((n + 1) % 18446744073709551616)) k.words ∙ ap (λ (x : ℕ). length r.turns ∷ x ∷ []) next in
-      let h : ℕ → ℕ = put r.holder T id in let mine = k.each id v at in let r' : Course E B = later by stands base key passes r (T + 1) h in (
+      let h : ℕ → ℕ = put r.holder T id in let mine = k.each id v at in let r' : LockState E B = later by stands base key passes r (T + 1) h in (
         with_ticket v n,
         keeps,
         tt,
@@ -25,7 +25,7 @@ module _ {V E B : Type 0} (by : E → ℕ) (stands : V → List E → List Holdi
       )
 
   -- a pass that sees all turns
-  sees_all : (r : Course E B) (j : ℕ) (v : View E B) (now : Bool) (held : List Holding) → Knows by r j v → (now ≡ true → (v.ticket ≡ Some (length r.turns)) × (held ≡ r.holdings)) → Knows by r j (record v { seen = r.turns; in_turn = now; holdings = held })
+  sees_all : (r : LockState E B) (j : ℕ) (v : View E B) (now : Bool) (held : List Holding) → Knows by r j v → (now ≡ true → (v.ticket ≡ Some (length r.turns)) × (held ≡ r.holdings)) → Knows by r j (record v { seen = r.turns; in_turn = now; holdings = held })
   sees_all r j v now held k turn = record {
     seen = begins_itself r.turns;
     based = k.based;
@@ -90,12 +90,12 @@ module _ {V E B : Type 0} (by : E → ℕ) (stands : V → List E → List Holdi
   signed_more made n turns e some_n within own all = subst (All (Signed by stands base key passes made)) (sym (entries-append turns (e ∷ []) ∙ ap (λ l. entries_of turns ++ l) (entries_one e))) (All-append (Signed by stands base key passes made) (entries_of turns) (option_list e) all (signed_one made n e some_n within own))
 
   pub ends : (slots id : ℕ) (me : Mine V E B) (x : V) (e : Option E) (own : Holding) → me.0.in_turn ≡ true → me.1 ≡ (0, Some x) ∷ [] → 0 < me.0.number → ((z : E) → e ≡ Some z → by z ≡ me.0.number)
-      → stands x (entries_of me.0.seen ++ option_list e) (with_own me.0.holdings me.0.number own) → Some (base x) ≡ me.0.base → Allows (Kept by stands base key passes) slots id me 0 (λ n. (n + 1) % 2 ^ 64) (ended by e own (step slots 0 1 0 none) me)
+      → stands x (entries_of me.0.seen ++ option_list e) (with_held_by me.0.holdings me.0.number own) → Some (base x) ≡ me.0.base → Allows (Kept by stands base key passes) slots id me 0 (λ n. (n + 1) % 2 ^ 64) (ended by e own (step slots 0 1 0 none) me)
   ends slots id me x e own now carries some_n signs stood based s k deep at fits = let n : ℕ = get_or s.words 0 0 in let r = k.course in let T : ℕ = r.tickets in let v = me.0 in let mine = k.each id v at in
       let L : ℕ = length r.turns in let found : n ≡ L = ap (λ (l : List ℕ). get_or l 0 0) k.words in let due = mine.in_its_turn now in let ready = mine.waits L due.0 in let before = ready.1 in
       let f = k.fuel in let w : View E B = after_turn v e own in let m : ℕ = v.number in let nu = mine.numbered some_n in let size = k.sized in let within = nu.1 in
       let inside : m ≤ length r.holdings = omega arith in
-      let turns' : List (Option E) = r.turns ++ e ∷ [] in let all' : List Holding = with_own r.holdings m own in let r' : Course E B = record r { turns = turns'; holdings = all' } in
+      let turns' : List (Option E) = r.turns ++ e ∷ [] in let all' : List Holding = with_held_by r.holdings m own in let r' : LockState E B = record r { turns = turns'; holdings = all' } in
       let longer : length turns' ≡ L + 1 = length-append r.turns (e ∷ []) in
       let next : (n + 1) % 18446744073709551616 ≡ length turns' = omega arith in
       let ws : set s.words 0 ((n + 1) % 18446744073709551616) ≡ length turns' ∷ T ∷ [] = ap (λ (l : List ℕ). set l 0 ((n + 1) % 18446744073709551616)) k.words ∙ ap (λ (y : ℕ). y ∷ T ∷ []) next in
@@ -150,7 +150,7 @@ module _ {V E B : Type 0} (by : E → ℕ) (stands : V → List E → List Holdi
                 value = x;
                 at_home = refl;
                 stood = subst (λ (l : List E). stands x l all') (sym (entries-append r.turns (e ∷ []) ∙ ap (λ l. entries_of r.turns ++ l) (entries_one e)))
-                    (subst (λ (y : List (Option E) × List Holding). stands x (entries_of y.0 ++ option_list e) (with_own y.1 m own)) (λ i. (due.1 i, due.2 i)) stood);
+                    (subst (λ (y : List (Option E) × List Holding). stands x (entries_of y.0 ++ option_list e) (with_held_by y.1 m own)) (λ i. (due.1 i, due.2 i)) stood);
                 same_base = mine.based (base x) (sym based);
                 nobody = nobody_still by stands base key passes s.views id w refl (λ j u other at'. not_true u.in_turn (λ z. let theirs = k.each j u at' in other (sym (theirs.waits L (theirs.in_its_turn z).0).2 ∙ ready.2)));
               };
@@ -175,7 +175,7 @@ module _ {V E B : Type 0} (by : E → ℕ) (stands : V → List E → List Holdi
       )
 
   pub ends_at : (slots id : ℕ) (me was : Mine V E B) (x : V) (e : Option E) (own : Holding) → me ≡ (was.0, (0, Some x) ∷ rest was.1) → was.1 ≡ (0, None) ∷ [] → was.0.in_turn ≡ true → 0 < was.0.number → ((z : E) → e ≡ Some z → by z ≡ was.0.number)
-      → stands x (entries_of was.0.seen ++ option_list e) (with_own was.0.holdings was.0.number own) → Some (base x) ≡ was.0.base → Allows (Kept by stands base key passes) slots id me 0 (λ n. (n + 1) % 2 ^ 64) (ended by e own (step slots 0 1 0 none) me)
+      → stands x (entries_of was.0.seen ++ option_list e) (with_held_by was.0.holdings was.0.number own) → Some (base x) ≡ was.0.base → Allows (Kept by stands base key passes) slots id me 0 (λ n. (n + 1) % 2 ^ 64) (ended by e own (step slots 0 1 0 none) me)
   ends_at slots id me was x e own is carries now some_n signs stood based = let is' : me ≡ (was.0, (0, Some x) ∷ []) = is ∙ ap (λ (c : List (ℕ × Option V)). let y : Mine V E B = (was.0, (0, Some x) ∷ rest c) in y) carries in
       subst (λ (m : Mine V E B). Allows (Kept by stands base key passes) slots id m 0 (λ n. (n + 1) % 2 ^ 64) (ended by e own (step slots 0 1 0 none) m)) (sym is') (ends slots id (was.0, (0, Some x) ∷ []) x e own now refl some_n signs stood based)
 

@@ -1,12 +1,12 @@
 -- What a crate above needs of a turn and of passes that meet.
 use Rattle.std.proofs.Common.{Bool, List, Option, Some, [], ap, arith, cond, eqb, eqb-true, false, length, length-append, refl, slice_get, subst, suc, sym, true, ℕ, ⊎_elim, ◌++◌, ◌+◌, ◌-◌, ◌∙◌, ◌∷◌, ◌≡◌, ◌≢◌, ◌≤◌, ◌⊎◌}
-use Rattle.turn_history.proofs.Common.{Holding, StartsWith, calls_by, choose, dec_lt, dite, entries_of, longer, own_of, set-get_or, with_own}
+use Rattle.turn_history.proofs.Common.{Holding, StartsWith, calls_by, choose, dec_lt, dite, entries_of, longer, held_by, set-get_or, with_held_by}
 use Rattle.std.proofs.lemmas.Bool.{le-ltb, lt-ltb}
 use Rattle.turn_history.proofs.Lists.{entries-append, calls-append, begins_itself, two_beginnings}
 
 -- nothing changes where a pass keeps what it has
-pub keeps_own : (holdings : List Holding) (n : ℕ) (own : Holding) → own_of holdings n ≡ own → with_own holdings n own ≡ holdings
-keeps_own holdings n own is = ap (λ o. with_own holdings n o) (sym is) ∙ set-get_or holdings (n - 1) []
+pub keeps_own : (holdings : List Holding) (n : ℕ) (own : Holding) → held_by holdings n ≡ own → with_held_by holdings n own ≡ holdings
+keeps_own holdings n own is = ap (λ o. with_held_by holdings n o) (sym is) ∙ set-get_or holdings (n - 1) []
 
 module _ {E : Type 0} where
   last_at : (es : List E) (e : E) → slice_get (es ++ e ∷ []) (length es) ≡ Some e

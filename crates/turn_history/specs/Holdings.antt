@@ -5,9 +5,9 @@ abbrev pub Holding : Type 0
 Holding = List (ℕ × ℕ)
 
 -- what the pass n has
-abbrev pub own_of : List Holding → ℕ → Holding
-own_of holdings n = slice_index_or holdings (n - 1) []
+abbrev pub held_by : List Holding → ℕ → Holding
+held_by holdings n = slice_index_or holdings (n - 1) []
 
 -- what all have, once the pass n has `own`
-abbrev pub with_own : List Holding → ℕ → Holding → List Holding
-with_own holdings n own = slice_set holdings (n - 1) own
+abbrev pub with_held_by : List Holding → ℕ → Holding → List Holding
+with_held_by holdings n own = slice_set holdings (n - 1) own

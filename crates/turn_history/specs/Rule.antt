@@ -6,14 +6,14 @@ use Rattle.atomic_table.specs.Table.{State}
 use Rattle.turn_history.specs.declared.pass.Account.{Account}
 use Rattle.turn_history.specs.declared.pass.View.{View}
 use Rattle.turn_history.specs.History.{entries_of, calls_by, StartsWith}
-use Rattle.turn_history.specs.Holdings.{Holding, own_of}
+use Rattle.turn_history.specs.Holdings.{Holding, held_by}
 
 abbrev pub total : {A : Type 0} → (A → ℕ) → List A → ℕ
 total f [] = 0
 total f (x ∷ xs) = f x + total f xs
 
 -- what is so far, beside the views
-pub record Course (E B : Type 0) : Type 0 where
+pub record LockState (E B : Type 0) : Type 0 where
   -- the turns that have ended
   pub turns : List (Option E)
   -- what each pass has out of the value
@@ -35,12 +35,12 @@ pub record Remembers {E : Type 0} (by : E → ℕ) (turns : List (Option E)) (se
 
 module _ {E B : Type 0} (by : E → ℕ) where
   -- what the view v on the seat j knows is so
-  pub record Knows (r : Course E B) (j : ℕ) (v : View E B) : Type 0 where
+  pub record Knows (r : LockState E B) (j : ℕ) (v : View E B) : Type 0 where
     pub seen : StartsWith r.turns v.seen
     pub based : (b : B) → v.base ≡ Some b → b ≡ r.base
     pub numbered : 0 < v.number → (r.seat v.number ≡ j) × (v.number ≤ r.made) × (0 < v.weight) × (v.base ≡ Some r.base)
     pub called : 0 < v.number → (calls_by by v.number (entries_of r.turns) ≡ v.calls) × (calls_by by v.number (entries_of v.seen) ≡ v.calls)
-    pub has : 0 < v.number → own_of r.holdings v.number ≡ v.holding
+    pub has : 0 < v.number → held_by r.holdings v.number ≡ v.holding
     pub waits : (t : ℕ) → v.ticket ≡ Some t → (length r.turns ≤ t) × (t < r.tickets) × (r.holder t ≡ j) × (0 < v.number)
     pub in_its_turn : v.in_turn ≡ true → (v.ticket ≡ Some (length r.turns)) × (v.seen ≡ r.turns) × (v.holdings ≡ r.holdings)
     pub makes : 0 < v.next_number → (v.next_number ≡ r.made + 1) × (r.maker ≡ j)
@@ -48,7 +48,7 @@ module _ {E B : Type 0} (by : E → ℕ) where
 
 module _ {V E B : Type 0} (by : E → ℕ) (stands : V → List E → List Holding → Type 0) (base : V → B) where
   -- the value is in its slot, and no pass is in its turn
-  pub record Home (r : Course E B) (s : State (Option V) (View E B)) : Type 0 where
+  pub record Home (r : LockState E B) (s : State (Option V) (View E B)) : Type 0 where
     pub value : V
     pub at_home : s.homes ≡ some (Some value) ∷ []
     pub stood : stands value (entries_of r.turns) r.holdings
@@ -64,11 +64,11 @@ module _ {V E B : Type 0} (by : E → ℕ) (stands : V → List E → List Holdi
     pub turns_now : view.in_turn ≡ true
 
   -- the pass n has nothing out of the value, or there is such a pass
-  abbrev pub Owned : Course E B → List (View E B) → ℕ → Type 0
-  Owned r views n = (own_of r.holdings n ≡ []) ⊎ ((v : View E B) × (get_elem? views (r.seat n) ≡ some v) × (v.number ≡ n))
+  abbrev pub Owned : LockState E B → List (View E B) → ℕ → Type 0
+  Owned r views n = (held_by r.holdings n ≡ []) ⊎ ((v : View E B) × (get_elem? views (r.seat n) ≡ some v) × (v.number ≡ n))
 
   pub record Kept (opening : B) (passes : ℕ) (s : State (Option V) (View E B)) : Type 0 where
-    pub course : Course E B
+    pub course : LockState E B
     pub words : s.words ≡ length course.turns ∷ course.tickets ∷ []
     pub order : length course.turns ≤ course.tickets
     -- the turns taken and those that are left: no word wraps

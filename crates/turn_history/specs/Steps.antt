@@ -4,7 +4,7 @@ use Rattle.atomic_table.specs.Table.{Step}
 use Rattle.turn_history.specs.declared.pass.Account.{Account}
 use Rattle.turn_history.specs.declared.pass.View.{View}
 use Rattle.turn_history.specs.History.{entries_of, StartsWith}
-use Rattle.turn_history.specs.Holdings.{Holding, own_of}
+use Rattle.turn_history.specs.Holdings.{Holding, held_by}
 use Rattle.turn_history.specs.Views.{Mine, OwnCalls, after_turn, in_its_turn_at, with_ticket}
 
 abbrev pub TableStep : Type 0 → Type 0
@@ -19,7 +19,7 @@ module _ {V E B : Type 0} where
     pub prefix : StartsWith w.seen v.seen
     pub own_calls : OwnCalls by w
     pub stood : stands x (entries_of w.seen) w.holdings
-    pub own_holding : own_of w.holdings v.number ≡ v.holding
+    pub own_holding : held_by w.holdings v.number ≡ v.holding
     pub based : v.base ≡ Some (base x)
     pub few : length w.seen < 2 ^ 62
     pub inside : v.number ≤ length w.holdings

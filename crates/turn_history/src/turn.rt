@@ -1,7 +1,7 @@
 //! A turn: a pass enters, has the value to itself, and leaves.
 ghost use Rattle.std.specs.Prelude.{◌≡◌, true, ◌<◌, ◌≤◌, ◌^◌, ◌++◌, ◌∷◌, [], length, Some, None};
 ghost use Rattle.turn_history.specs.History.{entries_of, option_list, place_of, StartsWith};
-ghost use Rattle.turn_history.specs.Holdings.{with_own};
+ghost use Rattle.turn_history.specs.Holdings.{with_held_by};
 ghost use Rattle.turn_history.specs.Views.{CanEnter, IsInTurn, OwnCalls, after_turn, entered};
 ghost use Rattle.turn_history.specs.Steps.{Found};
 
@@ -68,7 +68,7 @@ impl<V: Historic> HistoryLock<V> {
         requires turn { IsInTurn pass.old.me }
         requires entries { turn.entries ≡ length (entries_of pass.old.me.0.seen) }
         requires by { (e : V.Entry) → N.entry ≡ Some e → V.by e ≡ pass.old.me.0.number }
-        requires value { V.stands turn.value.value (entries_of pass.old.me.0.seen ++ option_list N.entry) (with_own pass.old.me.0.holdings pass.old.me.0.number N.holding) }
+        requires value { V.stands turn.value.value (entries_of pass.old.me.0.seen ++ option_list N.entry) (with_held_by pass.old.me.0.holdings pass.old.me.0.number N.holding) }
         requires base { Some (V.base turn.value.value) ≡ pass.old.me.0.base }
         ensures same { (pass.new.table_id ≡ pass.old.table_id) × (pass.new.id ≡ pass.old.id) }
         ensures pass { pass.new.me ≡ (after_turn pass.old.me.0 N.entry N.holding, []) }

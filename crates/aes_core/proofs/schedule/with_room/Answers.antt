@@ -1,4 +1,4 @@
-use Rattle.aes_core.proofs.Common.{ap, arith, bytes_of, length, length-set, take, take-length, ℕ, ◌*◌, ◌/◌, ◌∙◌, ◌≡◌}
+use Rattle.aes_core.proofs.Common.{ap, arith, word_bytes, length, length-set, take, take-length, ℕ, ◌*◌, ◌/◌, ◌∙◌, ◌≡◌}
 use Rattle.aes_core.proofs.Expansion.{key_word}
 use Rattle.aes_core.proofs.schedule.with_room.Goals as goal
 
@@ -14,5 +14,5 @@ returns c =
     let all : 4 * c.words.i ≡ length c.args.key.now = omega arith in
     record {
       length = c.words.invariant.0;
-      words = ap (λ (n : ℕ). bytes_of (take n c.words.schedule)) end ∙ c.words.invariant.1 ∙ ap (λ (n : ℕ). take n c.args.key.now) all ∙ take-length c.args.key.now;
+      words = ap (λ (n : ℕ). word_bytes (take n c.words.schedule)) end ∙ c.words.invariant.1 ∙ ap (λ (n : ℕ). take n c.args.key.now) all ∙ take-length c.args.key.now;
     }

@@ -1,5 +1,5 @@
 use Rattle.std.proofs.Common.{[], ap, append_assoc, arith, get_or, length, length-append, option_to_list, sym, ◌++◌, ◌∙◌, ◌∷◌}
-use Rattle.caller_service.proofs.Common.{All-pop, IsRoom, world}
+use Rattle.caller_service.proofs.Common.{All-pop, IsAllotment, world}
 use Rattle.std.proofs.Math.Seq.{get_or-append_seam}
 use Rattle.caller_service.proofs.Ended.{new_each}
 use Rattle.caller_service.proofs.service.seat.Goals as goal
@@ -16,8 +16,8 @@ loop-pass-preserved g c =
     let there = (c.requires.passes.each at c.in-Some.pass (let a = ap length passes in let b = length-append c.loop-pass.yielded (c.in-Some.pass ∷ c.next.new.self.rest.items) in omega arith)).1 in
     let fresh = ap (λ p. p.me) (sym (ap (λ l. get_or l at c.in-Some.pass) passes ∙ get_or-append_seam c.loop-pass.yielded c.in-Some.pass c.next.new.self.rest.items c.in-Some.pass)) ∙ there in
     record {
-      rooms = let a = i.rooms in let b = ap length parts in let d = length-append c.pop.new.self.items (c.unwrap-spares.result ∷ []) in let e = yielded in omega arith;
-      are = (All-pop IsRoom c.loop-pass.rooms.items c.pop.new.self.items c.pop.result c.pop.ensures.items i.are).0;
+      allotments = let a = i.allotments in let b = ap length parts in let d = length-append c.pop.new.self.items (c.unwrap-spares.result ∷ []) in let e = yielded in omega arith;
+      are = (All-pop IsAllotment c.loop-pass.allotments.items c.pop.new.self.items c.pop.result c.pop.ensures.items i.are).0;
       number = let a = i.number in let e = yielded in omega arith;
       passes = passes ∙ sym (append_assoc c.loop-pass.yielded (c.in-Some.pass ∷ []) c.next.new.self.rest.items);
       callers = let a = i.callers in let b = ap length pushed in let d = length-append c.loop-pass.callers.items (c.new.result ∷ []) in let e = yielded in omega arith;

@@ -1,11 +1,11 @@
 use Rattle.std.proofs.Common.{All, get_or, length, vec_capacity, ℕ, ◌++◌, ◌+◌, ◌<◌, ◌≡◌, ◌≤◌}
-use Rattle.caller_service.proofs.Common.{Caller, IsNewCaller, IsRoom, world}
+use Rattle.caller_service.proofs.Common.{Caller, IsNewCaller, IsAllotment, world}
 use Rattle.caller_service.proofs.service.seat.Given as goal
 
 abbrev pub invariant-loop-pass : goal.invariant-loop-pass
 invariant-loop-pass g l = record {
-  rooms : length l.rooms.items + length l.yielded ≡ 16;
-  are : All IsRoom l.rooms.items;
+  allotments : length l.allotments.items + length l.yielded ≡ 16;
+  are : All IsAllotment l.allotments.items;
   number : l.number ≡ length l.yielded;
   passes : l.fn.passes.items ≡ l.yielded ++ l.pass-iterator.rest.items;
   callers : length l.callers.items ≡ length l.yielded;

@@ -1,4 +1,4 @@
-use Rattle.ghash.proofs.Common.{ap, arith, joined, shifted, times_x4, xor_zero_r, ℕ, ◌*◌, ◌∙◌}
+use Rattle.ghash.proofs.Common.{ap, arith, joined_halves, shifted, times_x4, xor_zero_r, ℕ, ◌*◌, ◌∙◌}
 use Rattle.ghash.proofs.GroupProducts.{shifted_more}
 use Rattle.ghash.proofs.groups.times_x64.Goals as goal
 
@@ -9,7 +9,7 @@ groups-init c = c.of-product.ensures
 pub groups-preserved : goal.groups-preserved
 groups-preserved c =
     let block = c.args.block in
-    let product : ℕ = joined c.groups.product.high c.groups.product.low in
+    let product : ℕ = joined_halves c.groups.product.high c.groups.product.low in
     c.times_x4_plus-next.ensures ∙ xor_zero_r (times_x4 product) ∙ ap times_x4 c.groups.invariant
     ∙ shifted_more (4 * c.groups.counter) block ∙ ap (λ (n : ℕ). shifted n block) (omega arith)
 

@@ -1,4 +1,4 @@
-use Rattle.hmac_ops.proofs.Common.{ap, arith, block_length, filled, hash_of, length, length-hash_of, length_bounds, refl, take, ◌∙◌, ◌≤◌}
+use Rattle.hmac_ops.proofs.Common.{ap, arith, block_length, zero_padded, hash_of, length, length-hash_of, length_bounds, refl, take, ◌∙◌, ◌≤◌}
 use Rattle.hmac_ops.proofs.Padding.{key_block_short, key_block_long}
 use Rattle.hmac_ops.proofs.pads.key_block.Goals as goal
 
@@ -8,7 +8,7 @@ returns-then-key-block_length c =
     let key = c.args.key.now in
     let bounds = length_bounds which in
     let long : length (hash_of which key) ≤ block_length which = omega (arith, length-hash_of which key, bounds.0) in
-    ap (take (block_length which)) (c.filled-block.ensures ∙ ap (filled 128) c.hash-length.ensures.digest)
+    ap (take (block_length which)) (c.filled-block.ensures ∙ ap (zero_padded 128) c.hash-length.ensures.digest)
     ∙ key_block_long (hash_of which) (block_length which) key _ bounds.1 (omega arith) refl long
 
 pub returns-else-key-block_length : goal.returns-else-key-block_length

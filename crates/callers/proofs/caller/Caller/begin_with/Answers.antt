@@ -14,7 +14,7 @@ pub look-rank-requires-clause-reads : goal.look-rank-requires-clause-reads
 look-rank-requires-clause-reads g c κs within =
     let r = c.requires.ready in
     reads_key (world c.args.shared.now) c.args.self.now r (model_request c.args.call.now c.args.room) c.args.op c.args.setup c.requires.first c.requires.last (ap (λ x. model_request x c.args.room) c.requires.call)
-    (at_handle (λ o. o ≡ Inactive) c.args.self.now.handles.cells.items r.operations c.args.op r.stand c.requires.first c.requires.last c.requires.free)
+    (at_handle (λ o. o ≡ Inactive) c.args.self.now.handles.list.items r.operations c.args.op r.stand c.requires.first c.requires.last c.requires.free)
 
 pub look-rank-requires-clause-space : goal.look-rank-requires-clause-space
 look-rank-requires-clause-space g c κs within = has_room_for_lease (world c.args.shared.now) 4 c.args.self.now c.requires.ready
@@ -26,7 +26,7 @@ look-rank-requires-clause-spare g c κs within =
 pub returns-in-Ok : goal.returns-in-Ok
 returns-in-Ok g c =
     let w = world c.args.shared.now in let old = c.args.self.now in let r = c.requires.ready in let request = model_request c.args.call.now c.args.room in let asks = ap (λ x. model_request x c.args.room) c.requires.call in
-    let first = c.requires.first in let last = c.requires.last in let free = at_handle (λ o. o ≡ Inactive) old.handles.cells.items r.operations c.args.op r.stand first last c.requires.free in
+    let first = c.requires.first in let last = c.requires.last in let free = at_handle (λ o. o ≡ Inactive) old.handles.list.items r.operations c.args.op r.stand first last c.requires.free in
     let usage = c.of_purpose-usage.result in let uses = c.of_purpose-usage.ensures ∙ ap (used_for c.args.setup.purpose) c.of-alg.ensures in let lease = c.in-Ok.lease in
     let looked = if_ok (λ lease. IsRanked old.pass.me.0 c.look-rank.new.pass.me.0 request Plain c.look-rank.result.0 (lease_pair lease ∷ old.pass.me.0.holding) (DecidesAfter w (IsLent (use_refusal usage) c.args.setup.key.0 lease))) c.look-rank.result.1 c.in-Ok.is c.look-rank.ensures.lent in
     let new = record old { pass = c.look-rank.new.pass; spares = c.pop.new.self; handles = c.begin_with.new.self; spent = old.spent + 1 } in record {
@@ -39,7 +39,7 @@ returns-in-Ok g c =
 pub returns-in-Err : goal.returns-in-Err
 returns-in-Err g c =
     let w = world c.args.shared.now in let old = c.args.self.now in let r = c.requires.ready in let request = model_request c.args.call.now c.args.room in let asks = ap (λ x. model_request x c.args.room) c.requires.call in
-    let first = c.requires.first in let last = c.requires.last in let free = at_handle (λ o. o ≡ Inactive) old.handles.cells.items r.operations c.args.op r.stand first last c.requires.free in
+    let first = c.requires.first in let last = c.requires.last in let free = at_handle (λ o. o ≡ Inactive) old.handles.list.items r.operations c.args.op r.stand first last c.requires.free in
     let usage = c.of_purpose-usage.result in let uses = c.of_purpose-usage.ensures ∙ ap (used_for c.args.setup.purpose) c.of-alg.ensures in let why = c.in-Err.status in
     let looked = if_err (λ refused. IsRanked old.pass.me.0 c.look-rank.new.pass.me.0 request (mark_of refused.0) c.look-rank.result.0 old.pass.me.0.holding (DecidesAfter w (IsRefused (use_refusal usage) c.args.setup.key.0 refused.0))) c.look-rank.result.1 c.in-Err.is c.look-rank.ensures.refused in
     let new = record old { pass = c.look-rank.new.pass; spares = c.push_reserved.new.self } in let applies = refuses w old new r looked.after.entered first last c.args.setup usage asks uses free why refl looked.after.decided in record {

@@ -11,14 +11,14 @@ refuse_output_key-status-requires-clause-some g c = (c.requires.ready.operations
 
 pub refuse_output_key-status-requires-clause-refused : goal.refuse_output_key-status-requires-clause-refused
 refuse_output_key-status-requires-clause-refused g c =
-    λ cell operation at is. c.requires.refused cell operation (at ∙ ap (λ h. get_or h.cells.items (c.args.op - 1) cell) c.ask-rank.ensures.same.handles) is
+    λ cell operation at is. c.requires.refused cell operation (at ∙ ap (λ h. get_or h.list.items (c.args.op - 1) cell) c.ask-rank.ensures.same.handles) is
 
 pub ask-rank-requires-clause-leaves : goal.ask-rank-requires-clause-leaves
 ask-rank-requires-clause-leaves g c κs within =
     let w = world c.args.shared.now in
     let r = c.requires.ready in
     undue_leaves w c.args.self.now r (model_request c.args.call.now c.args.room) c.args.op c.args.attributes c.requires.first c.requires.last (ap (λ x. model_request x c.args.room) c.requires.call)
-    (at_handle (λ o. output_key_refusal (part_of derivation_part o) c.args.attributes ≡ None → ⊥) c.args.self.now.handles.cells.items r.operations c.args.op r.stand c.requires.first c.requires.last c.requires.refused)
+    (at_handle (λ o. output_key_refusal (part_of derivation_part o) c.args.attributes ≡ None → ⊥) c.args.self.now.handles.list.items r.operations c.args.op r.stand c.requires.first c.requires.last c.requires.refused)
 
 pub give_back-requires-clause-lent : goal.give_back-requires-clause-lent
 give_back-requires-clause-lent g c κs within =
@@ -30,7 +30,7 @@ returns g c =
     let w = world c.args.shared.now in let old = c.args.self.now in let r = c.requires.ready in let x = c.ask-rank.new.self in let asked = c.ask-rank.ensures in let handles = c.refuse_output_key-status.new.self in let alive = c.ask-rank.result.1 in
     let operation = operation_at r.operations c.args.op in let after = derived_key_refused alive operation c.args.attributes in let done = c.refuse_output_key-status.ensures in let stand = still_stand asked.same r.stand in let changed = done.changed r.operations stand in
     let new = c.give_back.new.self in let back = c.give_back.ensures.back in let first = c.requires.first in let last = c.requires.last in let why = c.refuse_output_key-status.result.0 in let reply = done.reply r.operations stand in
-    let refuses = at_handle (λ o. output_key_refusal (part_of derivation_part o) c.args.attributes ≡ None → ⊥) old.handles.cells.items r.operations c.args.op r.stand first last c.requires.refused in
+    let refuses = at_handle (λ o. output_key_refusal (part_of derivation_part o) c.args.attributes ≡ None → ⊥) old.handles.list.items r.operations c.args.op r.stand first last c.requires.refused in
     let asks = ap (λ call. model_request call c.args.room) c.requires.call in record {
       ready = asked_ready w old x r asked.ranked asked.same handles x.stream after changed new back first last asks (λ service. undue service c.args.op c.args.attributes first last refuses) c.give_back.ensures.at c.give_back.ensures.legal
           (asked.same.stream ∙ (draws_none old.stream ∙ ap (drawn_from old.stream) (sym (output_draws_none alive operation c.args.attributes)))) (let p = ap (λ x. x.place) asked.same.stream in omega arith);

@@ -17,7 +17,7 @@ pub look-rank-requires-clause-reads : goal.look-rank-requires-clause-reads
 look-rank-requires-clause-reads g c κs within =
     let r = c.requires.ready in let first = c.requires.first in let last = c.requires.last in
     reads_secret (world c.args.shared.now) c.args.self.now r (model_request c.args.call.now c.args.room) c.args.op c.args.step c.args.key.0 c.args.wanted first last (ap (λ x. model_request x c.args.room) c.requires.call)
-    (at_handle (λ o. TakesKeyAt o c.args.step c.args.wanted) c.args.self.now.handles.cells.items r.operations c.args.op r.stand first last (λ cell operation at is. (c.requires.takes cell operation at is).0))
+    (at_handle (λ o. TakesKeyAt o c.args.step c.args.wanted) c.args.self.now.handles.list.items r.operations c.args.op r.stand first last (λ cell operation at is. (c.requires.takes cell operation at is).0))
 
 pub input_key-requires-clause-takes : goal.input_key-requires-clause-takes
 input_key-requires-clause-takes g c = λ cell operation at is. let takes = (c.requires.takes cell operation at is).0 in (takes.w, takes.derives, takes.due)
@@ -25,7 +25,7 @@ input_key-requires-clause-takes g c = λ cell operation at is. let takes = (c.re
 pub returns-in-Ok : goal.returns-in-Ok
 returns-in-Ok g c =
     let w = world c.args.shared.now in let old = c.args.self.now in let r = c.requires.ready in let request = model_request c.args.call.now c.args.room in let asks = ap (λ x. model_request x c.args.room) c.requires.call in let first = c.requires.first in let last = c.requires.last in
-    let takes = at_handle (λ o. TakesKeyAt o c.args.step c.args.wanted) old.handles.cells.items r.operations c.args.op r.stand first last (λ cell operation at is. (c.requires.takes cell operation at is).0) in let lease = c.in-Ok.lease in
+    let takes = at_handle (λ o. TakesKeyAt o c.args.step c.args.wanted) old.handles.list.items r.operations c.args.op r.stand first last (λ cell operation at is. (c.requires.takes cell operation at is).0) in let lease = c.in-Ok.lease in
     let ranked = if_ok (λ lease. IsRanked old.pass.me.0 c.look-rank.new.pass.me.0 request Plain c.look-rank.result.0 (lease_pair lease ∷ old.pass.me.0.holding) (DecidesAfter w (IsLent (use_refusal c.args.wanted) c.args.key.0 lease))) c.look-rank.result.1 c.in-Ok.is c.look-rank.ensures.lent in
     let new = record old { pass = c.look-rank.new.pass; spares = c.pop.new.self; handles = c.input_key.new.self } in record {
       ready = given_ready w old new r ranked.after.entered first last c.args.step c.args.key.0 c.args.wanted asks takes refl lease ranked.after.decided (c.input_key.ensures.kept r.operations takes.w (record { id = c.args.key.0; number = lease.creation }) r.stand takes.derives refl) refl refl refl refl
@@ -37,7 +37,7 @@ returns-in-Ok g c =
 pub returns-in-Err : goal.returns-in-Err
 returns-in-Err g c =
     let w = world c.args.shared.now in let old = c.args.self.now in let r = c.requires.ready in let request = model_request c.args.call.now c.args.room in let asks = ap (λ x. model_request x c.args.room) c.requires.call in let first = c.requires.first in let last = c.requires.last in
-    let takes = at_handle (λ o. TakesKeyAt o c.args.step c.args.wanted) old.handles.cells.items r.operations c.args.op r.stand first last (λ cell operation at is. (c.requires.takes cell operation at is).0) in let why = c.in-Err.status in
+    let takes = at_handle (λ o. TakesKeyAt o c.args.step c.args.wanted) old.handles.list.items r.operations c.args.op r.stand first last (λ cell operation at is. (c.requires.takes cell operation at is).0) in let why = c.in-Err.status in
     let ranked = if_err (λ refused. IsRanked old.pass.me.0 c.look-rank.new.pass.me.0 request (mark_of refused.0) c.look-rank.result.0 old.pass.me.0.holding (DecidesAfter w (IsRefused (use_refusal c.args.wanted) c.args.key.0 refused.0))) c.look-rank.result.1 c.in-Err.is c.look-rank.ensures.refused in
     let new = record old { pass = c.look-rank.new.pass; spares = c.push_reserved.new.self; handles = c.fail_derivation.new.self } in record {
       ready = failed_ready w old new r ranked.after.entered first last c.args.step c.args.key.0 c.args.wanted asks takes why refl ranked.after.decided (c.fail_derivation.ensures.changed r.operations takes.w r.stand takes.derives) refl refl refl refl

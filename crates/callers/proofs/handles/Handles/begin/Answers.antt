@@ -5,14 +5,14 @@ use Rattle.callers.proofs.handles.Handles.begin.Goals as goal
 
 pub begin-requires : goal.begin-requires
 begin-requires c =
-    let at = c.index_mut.ensures.value ∙ ap (λ i. get_or c.args.self.now.cells.items i c.index_mut.result.now) c.place.ensures.place in record {
+    let at = c.index_mut.ensures.value ∙ ap (λ i. get_or c.args.self.now.list.items i c.index_mut.result.now) c.place.ensures.place in record {
       free = λ operation is. c.requires.free c.index_mut.result.now operation at is;
       none = c.requires.none c.index_mut.result.now at;
     }
 
 pub returns : goal.returns
 returns c =
-    let cells = c.args.self.now.cells.items in let op = c.args.op in let cell = c.index_mut.result.now in let next = c.begin.new.self in
+    let cells = c.args.self.now.list.items in let op = c.args.op in let cell = c.index_mut.result.now in let next = c.begin.new.self in
     let at = c.index_mut.ensures.value ∙ ap (λ i. get_or cells i cell) c.place.ensures.place in let inside : op - 1 < 4 = omega (arith, c.place.ensures.last) in record {
       changed = λ operations are.
           let after = set_up_without_key (operation_at operations op) c.args.setup in

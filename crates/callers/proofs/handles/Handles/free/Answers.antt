@@ -1,13 +1,13 @@
 use Rattle.std.proofs.Common.{None, subst, ◌≡◌}
-use Rattle.callers.proofs.Common.{All-pop, Cell}
+use Rattle.callers.proofs.Common.{All-pop, OperationHandle}
 use Rattle.std.specs.Option.{IfSome}
 use Rattle.callers.proofs.handles.Handles.free.Goals as goal
 
 pub into_states-states-requires : goal.into_states-states-requires
 into_states-states-requires c =
-    let P = λ (x : Cell). x.lease ≡ None in
-    subst (λ o. IfSome o P) c.in-Some.is (All-pop P c.loop-cell.cells.items c.pop.new.self.items c.pop.result c.pop.ensures.items c.loop-cell.invariant).1
+    let P = λ (x : OperationHandle). x.lease ≡ None in
+    subst (λ o. IfSome o P) c.in-Some.is (All-pop P c.loop-cell.list.items c.pop.new.self.items c.pop.result c.pop.ensures.items c.loop-cell.invariant).1
 
 pub loop-cell-preserved : goal.loop-cell-preserved
 loop-cell-preserved c =
-    (All-pop (λ (x : Cell). x.lease ≡ None) c.loop-cell.cells.items c.pop.new.self.items c.pop.result c.pop.ensures.items c.loop-cell.invariant).0
+    (All-pop (λ (x : OperationHandle). x.lease ≡ None) c.loop-cell.list.items c.pop.new.self.items c.pop.result c.pop.ensures.items c.loop-cell.invariant).0

@@ -5,7 +5,7 @@ use Rattle.callers.proofs.handles.Handles.step.Goals as goal
 
 pub returns : goal.returns
 returns c =
-    let cells = c.args.self.now.cells.items in let op = c.args.op in let cell = c.index_mut-cell.result.now in let next = c.settle.new.self in let done = c.step-result.ensures in
+    let cells = c.args.self.now.list.items in let op = c.args.op in let cell = c.index_mut-cell.result.now in let next = c.settle.new.self in let done = c.step-result.ensures in
     let at = c.index_mut-cell.ensures.value ∙ ap (λ i. get_or cells i cell) c.place.ensures.place in let inside : op - 1 < 4 = omega (arith, c.place.ensures.last) in record {
       changed = λ operations are.
           let after = stepped_by c.args.alive (next_bytes c.args.stream.now 16) (operation_at operations op) (model_step c.args.step (length c.args.out.now)) in let stood = done.state (operation_at operations op) (are.each (op - 1) cell inside at) in

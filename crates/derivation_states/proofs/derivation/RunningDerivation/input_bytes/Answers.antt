@@ -4,11 +4,11 @@ use Rattle.std.proofs.lemmas.Bool.{and_parts, eqb-true, not-false, not-true}
 use Rattle.store_model.specs.Prelude.{info_step, input_bytes_rows, is_due, is_salt_due, is_secret_due, salt_step}
 use Rattle.store_model.specs.DerivationOperations.{is_info_due}
 use Rattle.store_model.proofs.Tables.{none_holds}
-use Rattle.derivation_states.specs.declared.output.Output.{Output}
+use Rattle.derivation_states.specs.declared.output.OutputState.{OutputState}
 use Rattle.derivation_states.proofs.derivation.RunningDerivation.input_bytes.Goals as goal
 
 -- an input that comes before any byte was taken leaves the output
-unbegun : (o : Output) (w : DerivationWork) (salt secret info : Option (List ℕ)) → w.taken ≡ 0 → HoldsOutput o w → HoldsOutput o (record w { salt = salt; secret = secret; info = info })
+unbegun : (o : OutputState) (w : DerivationWork) (salt secret info : Option (List ℕ)) → w.taken ≡ 0 → HoldsOutput o w → HoldsOutput o (record w { salt = salt; secret = secret; info = info })
 unbegun o w salt secret info zero h =
     let r = h.running in
     let v : DerivationWork = record w { salt = salt; secret = secret; info = info } in
@@ -18,7 +18,7 @@ unbegun o w salt secret info zero h =
       begun = λ e. zero;
     }
 
-given_at : (o : Output) (w : DerivationWork) (bytes : List ℕ) (b c : Bool) → cond b (is_salt_due w) (cond c (is_info_due w) (is_secret_due w)) ≡ true → HoldsOutput o w →
+given_at : (o : OutputState) (w : DerivationWork) (bytes : List ℕ) (b c : Bool) → cond b (is_salt_due w) (cond c (is_info_due w) (is_secret_due w)) ≡ true → HoldsOutput o w →
     HoldsOutput o (cond b (record w { salt = Some (bytes_or_empty w.salt ++ bytes) }) (cond c (record w { info = Some bytes }) (record w { secret = Some bytes })))
 given_at o w bytes true c due h = unbegun o w (Some (bytes_or_empty w.salt ++ bytes)) w.secret w.info (h.begun (not-true _ (and_parts _ _ due).0)) h
 given_at o w bytes false true due h = unbegun o w w.salt w.secret (Some bytes) (eqb-true w.taken 0 (and_parts _ _ due).1) h

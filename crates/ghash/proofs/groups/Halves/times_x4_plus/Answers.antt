@@ -1,4 +1,4 @@
-use Rattle.ghash.proofs.Common.{ap, arith, bit_xor, joined, times_x4, ◌∙◌}
+use Rattle.ghash.proofs.Common.{ap, arith, bit_xor, joined_halves, times_x4, ◌∙◌}
 use Rattle.ghash.proofs.Halves.{halves_shifted}
 use Rattle.ghash.proofs.groups.Halves.times_x4_plus.Goals as goal
 
@@ -7,4 +7,4 @@ returns c =
     let high = c.args.self.high in
     let low = c.args.self.low in
     halves_shifted high low c.of-added.result.high c.of-added.result.low (omega (arith, c.well_formed)) (omega (arith, c.of-added.type_inv))
-    ∙ ap (bit_xor (times_x4 (joined high low))) c.of-added.ensures
+    ∙ ap (bit_xor (times_x4 (joined_halves high low))) c.of-added.ensures

@@ -16,13 +16,13 @@ returns-then-size-ne557120-clause-refused g c =
     (λ is. absurd is) (λ is. c.in-Ok.ensures.durable)
 
 pub returns-clause-opened : goal.returns-clause-opened
-returns-clause-opened g c = IfOk-weaker c.read.result _ _ (λ cells o. opened_after g.D.Disk c.args.disk c.measure.new.disk cells.disk cells.slots.items c.measure.ensures.calm o) c.read.ensures.opened
+returns-clause-opened g c = IfOk-weaker c.read.result _ _ (λ cells o. opened_after g.D.Disk c.args.disk c.measure.new.disk cells.disk cells.states.items c.measure.ensures.calm o) c.read.ensures.opened
 
 pub returns-clause-refused : goal.returns-clause-refused
 returns-clause-refused g c = IfErr-weaker c.read.result _ _ (λ refused r. refused_after g.D.Disk c.args.disk c.measure.new.disk refused.0 refused.1 c.measure.ensures.calm r) c.read.ensures.refused
 
 pub returns-then-size-eq0-clause-opened : goal.returns-then-size-eq0-clause-opened
-returns-then-size-eq0-clause-opened g c = IfOk-weaker c.make.result _ _ (λ cells o. opened_after g.D.Disk c.args.disk c.measure.new.disk cells.disk cells.slots.items c.measure.ensures.calm o) c.make.ensures.opened
+returns-then-size-eq0-clause-opened g c = IfOk-weaker c.make.result _ _ (λ cells o. opened_after g.D.Disk c.args.disk c.measure.new.disk cells.disk cells.states.items c.measure.ensures.calm o) c.make.ensures.opened
 
 pub returns-then-size-eq0-clause-refused : goal.returns-then-size-eq0-clause-refused
 returns-then-size-eq0-clause-refused g c = IfErr-weaker c.make.result _ _ (λ refused r. refused_after g.D.Disk c.args.disk c.measure.new.disk refused.0 refused.1 c.measure.ensures.calm r) c.make.ensures.refused

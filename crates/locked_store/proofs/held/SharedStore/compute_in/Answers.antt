@@ -2,7 +2,7 @@ use Rattle.std.proofs.Common.{ap, is_some, length, subst, sym, true, ◌∙◌, 
 use Rattle.std.specs.FinMap as map
 use Rattle.secure_element_calls.specs.Calls.{model_call}
 use Rattle.locked_store.proofs.Computing.{as_known}
-use Rattle.locked_store.proofs.Common.{DecidesAfter, HoldsOf, IsAnswered, IsClear, is_opaque_key, mark_computed, model_request, world}
+use Rattle.locked_store.proofs.Common.{DecidesAfter, HoldsOf, IsElementAnswered, IsClear, is_opaque_key, mark_computed, model_request, world}
 use Rattle.locked_store.proofs.Turns.{IsSteady, IsTurned, entered_after, few, in_turn, led_weaker, makes, stands_some, turned_after}
 use Rattle.locked_store.proofs.held.SharedStore.compute_in.Goals as goal
 use Rattle.locked_store.proofs.held.SharedStore.compute_in.Goals.{After-of}
@@ -18,7 +18,7 @@ opaque_call-computed-requires-clause-opaque g c κs within =
     subst (λ v. HoldsOf g.D.Disk g.A.Devices g.C.Admission v.store (λ m. is_opaque_key (map.get m.keys c.args.id.0) ≡ true)) (sym c.value.ensures.value) c.requires.opaque
 
 -- the turn, as the store ended it
-turned : (g : _) (c : goal.After-of g) → IsTurned (world c.args.self.now) c.args.pass.now c.opaque_call-computed.new.self (model_request c.args.call.now (length c.args.out.now)) (mark_computed c.opaque_call-computed.result) c.args.pass.now.me.0.holding (DecidesAfter (world c.args.self.now) (IsAnswered (g.A.Devices.keys (world c.args.self.now).opened.devices.value) c.args.id.0 c.args.element.now c.args.out.now c.opaque_call-computed.new.out c.opaque_call-computed.result))
+turned : (g : _) (c : goal.After-of g) → IsTurned (world c.args.self.now) c.args.pass.now c.opaque_call-computed.new.self (model_request c.args.call.now (length c.args.out.now)) (mark_computed c.opaque_call-computed.result) c.args.pass.now.me.0.holding (DecidesAfter (world c.args.self.now) (IsElementAnswered (g.A.Devices.keys (world c.args.self.now).opened.devices.value) c.args.id.0 c.args.element.now c.args.out.now c.opaque_call-computed.new.out c.opaque_call-computed.result))
 turned g c =
     let t = in_turn c.requires.begun c.requires.stands c.requires.opened (ap (λ v. v.store) c.value.ensures.value) in
     let l = c.opaque_call-computed.ensures in
@@ -30,9 +30,9 @@ turned g c =
       knows = ap (λ h. is_some h) l.keys;
       later = l.later;
     } in
-    let made = makes t c.opaque_call-computed.new.self (model_call c.args.element.now c.args.id.0 (length c.args.out.now)) (model_request c.args.call.now (length c.args.out.now)) (mark_computed c.opaque_call-computed.result) (IsAnswered (g.A.Devices.keys c.value.result.now.store.devices) c.args.id.0 c.args.element.now c.args.out.now c.opaque_call-computed.new.out c.opaque_call-computed.result) l.made c.requires.computes in
-    turned_after t (model_request c.args.call.now (length c.args.out.now)) (mark_computed c.opaque_call-computed.result) c.args.pass.now.me.0.holding (IsAnswered (g.A.Devices.keys (world c.args.self.now).opened.devices.value) c.args.id.0 c.args.element.now c.args.out.now c.opaque_call-computed.new.out c.opaque_call-computed.result) k
-    (led_weaker t c.opaque_call-computed.new.self (model_request c.args.call.now (length c.args.out.now)) (mark_computed c.opaque_call-computed.result) c.args.pass.now.me.0.holding (IsAnswered (g.A.Devices.keys c.value.result.now.store.devices) c.args.id.0 c.args.element.now c.args.out.now c.opaque_call-computed.new.out c.opaque_call-computed.result) (IsAnswered (g.A.Devices.keys (world c.args.self.now).opened.devices.value) c.args.id.0 c.args.element.now c.args.out.now c.opaque_call-computed.new.out c.opaque_call-computed.result) made
+    let made = makes t c.opaque_call-computed.new.self (model_call c.args.element.now c.args.id.0 (length c.args.out.now)) (model_request c.args.call.now (length c.args.out.now)) (mark_computed c.opaque_call-computed.result) (IsElementAnswered (g.A.Devices.keys c.value.result.now.store.devices) c.args.id.0 c.args.element.now c.args.out.now c.opaque_call-computed.new.out c.opaque_call-computed.result) l.made c.requires.computes in
+    turned_after t (model_request c.args.call.now (length c.args.out.now)) (mark_computed c.opaque_call-computed.result) c.args.pass.now.me.0.holding (IsElementAnswered (g.A.Devices.keys (world c.args.self.now).opened.devices.value) c.args.id.0 c.args.element.now c.args.out.now c.opaque_call-computed.new.out c.opaque_call-computed.result) k
+    (led_weaker t c.opaque_call-computed.new.self (model_request c.args.call.now (length c.args.out.now)) (mark_computed c.opaque_call-computed.result) c.args.pass.now.me.0.holding (IsElementAnswered (g.A.Devices.keys c.value.result.now.store.devices) c.args.id.0 c.args.element.now c.args.out.now c.opaque_call-computed.new.out c.opaque_call-computed.result) (IsElementAnswered (g.A.Devices.keys (world c.args.self.now).opened.devices.value) c.args.id.0 c.args.element.now c.args.out.now c.opaque_call-computed.new.out c.opaque_call-computed.result) made
     (λ m. as_known (g.A.Devices.keys c.value.result.now.store.devices) (g.A.Devices.keys (world c.args.self.now).opened.devices.value) c.args.id.0 c.args.element.now c.args.out.now c.opaque_call-computed.new.out c.opaque_call-computed.result m (t.stands.knows ∙ ap (λ o. is_some (g.A.Devices.keys o.devices.value)) t.opened)))
 
 pub leave_ranked-rank-requires-clause-stands : goal.leave_ranked-rank-requires-clause-stands

@@ -1,4 +1,4 @@
-use Rattle.persistent_keys.proofs.Common.{cell_slot}
+use Rattle.persistent_keys.proofs.Common.{cell_state}
 use Rattle.key_cells.proofs.Counts.{has_id_open}
 use Rattle.persistent_keys.proofs.Filing.{still_has}
 use Rattle.persistent_keys.proofs.Directory.{missing_unsure}
@@ -6,14 +6,14 @@ use Rattle.persistent_keys.proofs.Leading.{destroyed_leads, undestroyed_leads, u
 use Rattle.persistent_keys.proofs.file.KeyFile.destroy.Goals as goal
 
 pub give_up-requires-clause-open : goal.give_up-requires-clause-open
-give_up-requires-clause-open g c = has_id_open c.args.id (cell_slot c.settle.new.self.slots.items c.args.cell) (still_has c.args.self.now.cells.slots.items c.settle.new.self.slots.items c.args.id c.args.cell c.requires.slots c.requires.within c.settle.ensures.slots c.requires.key)
+give_up-requires-clause-open g c = has_id_open c.args.id (cell_state c.settle.new.self.states.items c.args.cell) (still_has c.args.self.now.cells.states.items c.settle.new.self.states.items c.args.id c.args.cell c.requires.states c.requires.within c.settle.ensures.states c.requires.key)
 
 pub destroy-requires-clause-open : goal.destroy-requires-clause-open
-destroy-requires-clause-open g c = has_id_open c.args.id (cell_slot c.settle.new.self.slots.items c.args.cell) (still_has c.args.self.now.cells.slots.items c.settle.new.self.slots.items c.args.id c.args.cell c.requires.slots c.requires.within c.settle.ensures.slots c.requires.key)
+destroy-requires-clause-open g c = has_id_open c.args.id (cell_state c.settle.new.self.states.items c.args.cell) (still_has c.args.self.now.cells.states.items c.settle.new.self.states.items c.args.id c.args.cell c.requires.states c.requires.within c.settle.ensures.states c.requires.key)
 
 pub returns-in-Err-clause-failed : goal.returns-in-Err-clause-failed
 returns-in-Err-clause-failed g c = λ keys keys' doubt key s there put. let d = g.D.Disk in let e = c.give_up.ensures in
-    unreached_leads d _ _ _ _ _ _ keys keys' doubt c.args.cell c.args.id key c.requires.within c.requires.key c.settle.ensures.slots e.disk e.slots put there c.settle.ensures.keeps e.doubts s
+    unreached_leads d _ _ _ _ _ _ keys keys' doubt c.args.cell c.args.id key c.requires.within c.requires.key c.settle.ensures.states e.disk e.states put there c.settle.ensures.keeps e.doubts s
 
 pub returns-in-Ok-destroy-clause-destroyed : goal.returns-in-Ok-destroy-clause-destroyed
 returns-in-Ok-destroy-clause-destroyed g c = λ keys keys' doubt s put. let d = g.D.Disk in let e = c.in-Ok-destroy.ensures in
@@ -21,7 +21,7 @@ returns-in-Ok-destroy-clause-destroyed g c = λ keys keys' doubt s put. let d = 
 
 pub returns-in-Err-destroy-clause-failed : goal.returns-in-Err-destroy-clause-failed
 returns-in-Err-destroy-clause-failed g c = λ keys keys' doubt key s there put. let d = g.D.Disk in let e = c.in-Err-destroy.ensures in
-    undestroyed_leads d _ _ _ _ keys doubt s c.in-Ok.ensures.ok c.in-Ok.ensures.keeps c.in-Ok.ensures.free _ _ keys' c.args.cell c.args.id key c.requires.within c.requires.key e.slots put there e.failed
+    undestroyed_leads d _ _ _ _ keys doubt s c.in-Ok.ensures.ok c.in-Ok.ensures.keeps c.in-Ok.ensures.free _ _ keys' c.args.cell c.args.id key c.requires.within c.requires.key e.states put there e.failed
 
 pub returns-in-Err-clause-missing : goal.returns-in-Err-clause-missing
-returns-in-Err-clause-missing g c = missing_unsure c.args.self.now.cells.slots.items c.settle.new.self.slots.items c.give_up.new.self.slots.items c.args.cell c.settle.ensures.slots c.give_up.ensures.slots
+returns-in-Err-clause-missing g c = missing_unsure c.args.self.now.cells.states.items c.settle.new.self.states.items c.give_up.new.self.states.items c.args.cell c.settle.ensures.states c.give_up.ensures.states

@@ -6,7 +6,7 @@ use Rattle.persistent_keys.proofs.file.KeyFile.make.Goals as goal
 pub returns-in-Err-clause-failed : goal.returns-in-Err-clause-failed
 returns-in-Err-clause-failed g c = λ keys doubt s.
     let d = g.D.Disk in
-    keeps_leads d _ _ _ _ keys doubt c.in-Err.ensures.slots c.in-Err.ensures.keeps s
+    keeps_leads d _ _ _ _ keys doubt c.in-Err.ensures.states c.in-Err.ensures.keeps s
 
 pub returns-in-Ok-create-clause-made : goal.returns-in-Ok-create-clause-made
 returns-in-Ok-create-clause-made g c = λ keys keys' doubt s put.
@@ -37,16 +37,16 @@ returns-in-Err-Disk-clause-failed g c = λ keys doubt s.
 pub returns-in-Ok-create-clause-placed : goal.returns-in-Ok-create-clause-placed
 returns-in-Ok-create-clause-placed g c =
     let e = c.in-Ok-create.ensures in
-    let old = c.args.self.now.cells.slots.items in
-    let mid = c.settle.new.self.slots.items in
-    (c.in-Ok-create._cell, first_of_settled old mid c.in-Ok-create._cell c.in-Ok.ensures.ok e.place, placed_after old mid c.create.new.self.slots.items c.in-Ok-create._cell _ c.in-Ok.ensures.ok e.ok)
+    let old = c.args.self.now.cells.states.items in
+    let mid = c.settle.new.self.states.items in
+    (c.in-Ok-create._cell, first_of_settled old mid c.in-Ok-create._cell c.in-Ok.ensures.ok e.place, placed_after old mid c.create.new.self.states.items c.in-Ok-create._cell _ c.in-Ok.ensures.ok e.ok)
 
 pub returns-in-Err-clause-full : goal.returns-in-Err-clause-full
-returns-in-Err-clause-full g c = (λ e. cc, λ full. absurd (c.in-Err.ensures.doubted (full_is_sure c.args.self.now.cells.slots.items full)))
+returns-in-Err-clause-full g c = (λ e. cc, λ full. absurd (c.in-Err.ensures.doubted (full_is_sure c.args.self.now.cells.states.items full)))
 
 pub returns-in-Err-Full-clause-nothing : goal.returns-in-Err-Full-clause-nothing
 returns-in-Err-Full-clause-nothing g c = λ e.
     let full = c.in-Err-Full.ensures.full in
     let n = c.in-Err-Full.ensures.nothing (ap Err c.in-Err-Full.field-0-is) in
-    let idle = c.in-Ok.ensures.idle (full_is_sure c.args.self.now.cells.slots.items (full_of_settled c.args.self.now.cells.slots.items c.settle.new.self.slots.items c.in-Ok.ensures.ok (full.0 (ap Err c.in-Err-Full.field-0-is)))) in
+    let idle = c.in-Ok.ensures.idle (full_is_sure c.args.self.now.cells.states.items (full_of_settled c.args.self.now.cells.states.items c.settle.new.self.states.items c.in-Ok.ensures.ok (full.0 (ap Err c.in-Err-Full.field-0-is)))) in
     (n.0 ∙ idle.0, n.1 ∙ idle.1)

@@ -22,7 +22,7 @@ returns-in_default-find-clause-missing g c = λ is_missing start opening h all e
     let m = s.holds.model in
     brings g.D.Disk g.A.Devices g.C.Admission old old.file old.slots old.buffer start opening h all e
     (λ n. map.get n.keys c.args.id.0 ≡ None) (left_alone g.D.Disk g.A.Devices g.C.Admission old.file) s.holds s.holds.slots
-    (no_key old.file.cells.slots.items m c.args.id.0 s.holds.directory c.in_default-find.ensures (c.in_default.ensures.none m all s.holds.slots))
+    (no_key old.file.cells.states.items m c.args.id.0 s.holds.directory c.in_default-find.ensures (c.in_default.ensures.none m all s.holds.slots))
 
 pub returns-in_default-find-clause-emptied : goal.returns-in_default-find-clause-emptied
 returns-in_default-find-clause-emptied g c = empties_none c.args.self.now.slots.table.slots

@@ -1,5 +1,5 @@
 use Rattle.std.proofs.Common.{inl, Option, [], ap, refl, subst, sym, ℕ, ◌++◌, ◌∙◌, ◌∷◌, ◌≡◌}
-use Rattle.store_core.proofs.Common.{Copy, Enters, Entry, IsEntry, IsOut, IsReady, IsTold, IsUnkept, Key, OnStore, Plain, Store, buffer_of, bytes_of, course_of, durable_keys, last_counts, mark_unkept, new_id, ranked_on, recorded_copy, replay, slot_at}
+use Rattle.store_core.proofs.Common.{Copy, Enters, Entry, IsEntry, IsOut, IsAboutToCreate, IsTold, IsUnkept, Key, OnStore, Plain, Store, buffer_of, bytes_of, course_of, durable_keys, last_counts, mark_unkept, new_id, ranked_on, recorded_copy, replay, slot_at}
 use Rattle.store_model.specs.Store as model
 use Rattle.store_core.proofs.Changing.{retold}
 use Rattle.store_core.proofs.Holding.{with_buffer}
@@ -131,7 +131,7 @@ create-made-requires-clause-ready g c = λ κs lives.
     let a = c.in-Ok-decide_copy.recorded in
     let buffer = c.fill_from.new.self in
     let full : buffer ≡ buffer_of (bytes_of slot.buffer) = c.fill_from.ensures ∙ ap buffer_of c.bytes.ensures.list in
-    let r = subst (λ (o : Option ℕ). IsReady g.D.Disk g.A.Devices g.C.Admission (record mid { buffer = buffer }) caller a o own.0 own.1 own.2 own.3 e) (sym c.held_number-held.ensures)
+    let r = subst (λ (o : Option ℕ). IsAboutToCreate g.D.Disk g.A.Devices g.C.Admission (record mid { buffer = buffer }) caller a o own.0 own.1 own.2 own.3 e) (sym c.held_number-held.ensures)
     (ready e caller source stated refl refl g.D.Disk g.A.Devices g.C.Admission mid own.0 own.1 own.2 own.3 n slot key there has a (c.in-Ok-decide_copy.ensures.value own.0 own.1 own.2 own.3 e n source key there has) buffer full) in
     (own.0, own.1, own.2, own.3, e, r, own.5)
 

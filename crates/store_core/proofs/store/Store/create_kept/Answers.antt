@@ -40,7 +40,7 @@ returns-in-Ok-clause-made g c = λ start opening h all less e r since gains law 
             c = placed.0;
             without = placed.1;
             placed = placed.2;
-            sized = ensures.slots;
+            sized = ensures.states;
             tells = ensures.tells;
             leads = λ keys keys' doubt stands put. ensures.made keys keys' doubt stands (subst (λ (b : List ℕ). IsPut keys keys' a.id.0 (Some (stored (old.found + old.ranked) a b))) (sym c.as_slice.ensures.list) put);
           })
@@ -64,10 +64,10 @@ returns-clause-unkept g c = rw c.in-Err-Disk.closed_first-is (λ start opening h
       fails_kept r c.requires.first c.requires.last c.requires.persistent g.met.D.Disk.only_now c.make.new.self c.give_up.new.self less making law closed
           (record {
             settled = ensures.unplaced;
-            sized = ensures.slots;
+            sized = ensures.states;
             tells = ensures.tells;
-            leads = λ keys doubt stands. subst (λ (b : List ℕ). Leads g.D.Disk old.file.cells.disk c.make.new.self.cells.disk old.file.cells.slots.items c.make.new.self.cells.slots.items keys doubt keys (doubt_unmade (Disk closed) a b doubt)) c.as_slice.ensures.list
-                (subst (λ (f : MakeFault). Leads g.D.Disk old.file.cells.disk c.make.new.self.cells.disk old.file.cells.slots.items c.make.new.self.cells.slots.items keys doubt keys (doubt_unmade f a c.as_slice.result.now doubt)) c.in-Err-Disk.field-0-is (ensures.failed keys doubt stands));
+            leads = λ keys doubt stands. subst (λ (b : List ℕ). Leads g.D.Disk old.file.cells.disk c.make.new.self.cells.disk old.file.cells.states.items c.make.new.self.cells.states.items keys doubt keys (doubt_unmade (Disk closed) a b doubt)) c.as_slice.ensures.list
+                (subst (λ (f : MakeFault). Leads g.D.Disk old.file.cells.disk c.make.new.self.cells.disk old.file.cells.states.items c.make.new.self.cells.states.items keys doubt keys (doubt_unmade f a c.as_slice.result.now doubt)) c.in-Err-Disk.field-0-is (ensures.failed keys doubt stands));
             unclosed = λ unsettled. ensures.unclosed (failed ∙ ap (λ b. Err (Disk b)) unsettled);
             rose = ensures.cause closed failed;
           })

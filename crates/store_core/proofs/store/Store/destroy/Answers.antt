@@ -19,7 +19,7 @@ returns-then-id-eq0-clause-destroyed g c = λ start opening h all e s call is.
 pub returns-in_default-find-clause-failed : goal.returns-in_default-find-clause-failed
 returns-in_default-find-clause-failed g c = λ start opening h all e s call is.
     let m = s.holds.model in
-    let none = no_key c.args.self.now.file.cells.slots.items m c.args.id.0 s.holds.directory c.in_default.ensures (c.in_default-find.ensures.none m all s.holds.slots) in (
+    let none = no_key c.args.self.now.file.cells.states.items m c.args.id.0 s.holds.directory c.in_default.ensures (c.in_default-find.ensures.none m all s.holds.slots) in (
       nothing g.D.Disk g.A.Devices g.C.Admission g.met.D.Disk.only_now c.args.self.now start opening h all e c.args.id.0 call s none is,
       rows_missing c.args.id.0 (map.get m.keys c.args.id.0) c.if-id-eq0.false none,
     )
@@ -33,7 +33,7 @@ returns-then-id-eq0-clause-ended g c = λ i has.
 pub returns-then-id-eq0-clause-freed : goal.returns-then-id-eq0-clause-freed
 returns-then-id-eq0-clause-freed g c = λ cell within has.
     let s = c.requires.stands.4.holds in
-    absurd (lacks_cell c.args.self.now.file.cells.slots.items s.model c.args.id.0 s.directory (none_at_zero s.model c.args.id.0 s.sound c.if-id-eq0.true) cell within has)
+    absurd (lacks_cell c.args.self.now.file.cells.states.items s.model c.args.id.0 s.directory (none_at_zero s.model c.args.id.0 s.sound c.if-id-eq0.true) cell within has)
 
 pub returns-then-id-eq0-clause-forgotten : goal.returns-then-id-eq0-clause-forgotten
 returns-then-id-eq0-clause-forgotten g c = λ i lt has.

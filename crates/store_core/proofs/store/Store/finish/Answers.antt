@@ -1,5 +1,5 @@
 use Rattle.std.proofs.Common.{Err, None, Ok, Option, [], ap, length, refl, subst, sym, ◌++◌, ◌∙◌, ◌∷◌, ◌≡◌}
-use Rattle.store_core.proofs.Common.{Agrees, Buffer, IsEntry, IsReady, Plain, RecordsStated, Store, bytes-buffer_of, bytes_of, course_of, durable_keys, mark_unkept, new_id, ranked_on}
+use Rattle.store_core.proofs.Common.{Agrees, Buffer, IsEntry, IsAboutToCreate, Plain, RecordsStated, Store, bytes-buffer_of, bytes_of, course_of, durable_keys, mark_unkept, new_id, ranked_on}
 use Rattle.std.specs.Option.{option_map}
 use Rattle.slot_table.specs.Lent.{Reading}
 use Rattle.store_model.specs.Store as model
@@ -23,7 +23,7 @@ create-made-requires-clause-ready g c = λ κs within_lives.
     let records : RecordsStated leased caller c.args.attributes.now (length bytes) n.0.model (Ok a) =
     subst (λ (m : model.Store). RecordsStated leased caller c.args.attributes.now (length bytes) m (Ok a)) (before.1 ∙ sym n.1) (c.in-Ok.ensures.value own.0 own.1 own.2 own.3 e before.0 own.6) in
     let material : bytes_of c.fill_from.new.self ≡ bytes = ap (λ (b : Buffer). bytes_of b) c.fill_from.ensures ∙ bytes-buffer_of bytes in
-    let r : IsReady g.D.Disk g.A.Devices g.C.Admission mid caller a None own.0 own.1 own.2 own.3 e =
+    let r : IsAboutToCreate g.D.Disk g.A.Devices g.C.Admission mid caller a None own.0 own.1 own.2 own.3 e =
     record { holds = n.0; bytes = bytes; material = material; stated = c.args.attributes.now; decided = stated_ok leased caller c.args.attributes.now (length bytes) n.0.model a records } in
     (own.0, own.1, own.2, own.3, e, r, own.5)
 
@@ -41,7 +41,7 @@ returns-in-Ok-made-clause-made g c = λ start opening h all less e s lent gains 
     let records : RecordsStated leased caller c.args.attributes.now (length bytes) n.0.model (Ok a) =
     subst (λ (m : model.Store). RecordsStated leased caller c.args.attributes.now (length bytes) m (Ok a)) (before.1 ∙ sym n.1) (decided start opening h all e before.0 lent) in
     let material : bytes_of c.fill_from.new.self ≡ bytes = ap (λ (b : Buffer). bytes_of b) c.fill_from.ensures ∙ bytes-buffer_of bytes in
-    let r : IsReady g.D.Disk g.A.Devices g.C.Admission mid caller a None start opening h all e =
+    let r : IsAboutToCreate g.D.Disk g.A.Devices g.C.Admission mid caller a None start opening h all e =
     record { holds = n.0; bytes = bytes; material = material; stated = c.args.attributes.now; decided = stated_ok leased caller c.args.attributes.now (length bytes) n.0.model a records } in
     let making = is_making g.D.Disk g.A.Devices g.C.Admission old mid start h e caller (RecordsStated leased caller c.args.attributes.now (length bytes)) (λ m. bytes) n.0.model a bytes refl creating n.0.replayed records refl in
     let turn : IsEntry g.D.Disk g.A.Devices g.C.Admission (ranked_on c.create-made.new.self) Plain e = record { from_first = is.from_first; to_last = is.to_last; marked = is.marked; done = is.done; disk_faults = is.disk_faults; device_faults = is.device_faults } in
@@ -64,7 +64,7 @@ returns-in-Err-made-clause-unmade g c = λ start opening h all less e s lent gai
     let records : RecordsStated leased caller c.args.attributes.now (length bytes) n.0.model (Ok a) =
     subst (λ (m : model.Store). RecordsStated leased caller c.args.attributes.now (length bytes) m (Ok a)) (before.1 ∙ sym n.1) (decided start opening h all e before.0 lent) in
     let material : bytes_of c.fill_from.new.self ≡ bytes = ap (λ (b : Buffer). bytes_of b) c.fill_from.ensures ∙ bytes-buffer_of bytes in
-    let r : IsReady g.D.Disk g.A.Devices g.C.Admission mid caller a None start opening h all e =
+    let r : IsAboutToCreate g.D.Disk g.A.Devices g.C.Admission mid caller a None start opening h all e =
     record { holds = n.0; bytes = bytes; material = material; stated = c.args.attributes.now; decided = stated_ok leased caller c.args.attributes.now (length bytes) n.0.model a records } in
     let making = is_making g.D.Disk g.A.Devices g.C.Admission old mid start h e caller (RecordsStated leased caller c.args.attributes.now (length bytes)) (λ m. bytes) n.0.model a bytes refl creating n.0.replayed records refl in
     let turn : IsEntry g.D.Disk g.A.Devices g.C.Admission (ranked_on c.create-made.new.self) (mark_unkept c.in-Err-made.why) e = record { from_first = is.from_first; to_last = is.to_last; marked = is.marked; done = is.done; disk_faults = is.disk_faults; device_faults = is.device_faults } in

@@ -1,5 +1,5 @@
 use Rattle.std.proofs.Common.{Bool, Err, IsErrOf, List, Some, [], false, is_some, ap, arith, inl, refl, subst, sym, true, ℕ, ◌∙◌, ◌∷◌, ◌≡◌}
-use Rattle.store_core.proofs.Common.{IsKeyOf, Pairs, always_found, cell_slot, course_of, creation_of_slot, durable_keys, is_persistent_key, slot_at, stored}
+use Rattle.store_core.proofs.Common.{IsKeyOf, Pairs, always_found, cell_state, course_of, creation_of_state, durable_keys, is_persistent_key, slot_at, stored}
 use Rattle.std.specs.FinMap as map
 use Rattle.key_slots.proofs.Pairs.{was_out}
 use Rattle.store_core.proofs.Kept.{key_of_cell, is_persistent}
@@ -69,8 +69,8 @@ returns-in-Ok-clause-found g c = λ start opening h all e s is.
     let there = c.requires.there.within in
     let numbered = c.creation-number.ensures in
     let found = loads g.D.Disk g.A.Devices g.C.Admission old c.load.new.self c.fill-slot.new.self c.wipe.new.self start opening h all e id c.args.cell a bytes
-    (record { same = c.load.ensures.same; slots = c.load.ensures.slots; keeps = c.load.ensures.keeps }) s.holds is (omega arith) c.requires.there.here key c.in-Ok.ensures.named
-    (λ tells. subst (λ (b : List ℕ). durable_keys m id ≡ Some (stored (creation_of_slot (cell_slot old.file.cells.slots.items c.args.cell)) a b)) (sym list) (c.in-Ok.ensures.loaded (durable_keys m) (course_of start h).doubt (s.holds.file tells)))
+    (record { same = c.load.ensures.same; slots = c.load.ensures.states; keeps = c.load.ensures.keeps }) s.holds is (omega arith) c.requires.there.here key c.in-Ok.ensures.named
+    (λ tells. subst (λ (b : List ℕ). durable_keys m id ≡ Some (stored (creation_of_state (cell_state old.file.cells.states.items c.args.cell)) a b)) (sym list) (c.in-Ok.ensures.loaded (durable_keys m) (course_of start h).doubt (s.holds.file tells)))
     c.requires.unknown
     (λ n agrees l.
     let is_loaded : IsLoaded l.0 c.creation-number.result a bytes = record { has_number = l.2.has_number ∙ sym numbered; has_attributes = l.2.has_attributes; has_bytes = l.2.has_bytes } in
@@ -117,7 +117,7 @@ returns-in-Err g c =
           let m = s.holds.model in
           let sized = s.holds.directory.sized in
           let there = c.requires.there.within in
-          let key = key_of_cell old.file.cells.slots.items m c.args.id.0 c.args.cell s.holds.directory (omega arith) c.requires.there.here in
+          let key = key_of_cell old.file.cells.states.items m c.args.id.0 c.args.cell s.holds.directory (omega arith) c.requires.there.here in
           brings g.D.Disk g.A.Devices g.C.Admission old c.load.new.self c.give_up.new.self c.load.new.out start opening h all e
           (λ n. is_persistent_key (map.get n.keys c.args.id.0) ≡ true)
           (record { same = loaded.same; slots = loaded.slots; keeps = loaded.keeps }) s.holds

@@ -1,5 +1,5 @@
 use Rattle.std.proofs.Common.{Err, IsTrue, Some, ap, length, refl, subst, sym, ◌∙◌, ◌≡◌}
-use Rattle.store_core.proofs.Common.{FaultCounts, HoldsHandle, IsAnswered, Plain, Refused, Rose, algorithm_asked, counted, first_row, fits_type, has_element, is_opaque_key, key_rows, last_counts, mark_computed, model_call, unless-err, unless-ok}
+use Rattle.store_core.proofs.Common.{FaultCounts, HoldsHandle, IsElementAnswered, Plain, Refused, Rose, algorithm_asked, counted, first_row, fits_type, has_element, is_opaque_key, key_rows, last_counts, mark_computed, model_call, unless-err, unless-ok}
 use Rattle.store_core.proofs.ByElement.{answered, checked_rows, ends_computed, fault_of, has_slot, held_of, holds_type, keeps_keys, mark_may, type_fits, unused}
 use Rattle.store_core.proofs.Destroyed.{element_there}
 use Rattle.store_core.proofs.store.Store.opaque_call.Goals as goal
@@ -43,7 +43,7 @@ returns-in-Ok-clause-made g c = λ start opening h all e s is turn.
     let there = subst (λ n. HoldsHandle held n (λ h. h ≡ held_of k.0)) (sym (c.number.ensures ∙ k.2.number)) (s.holds.device.there id k.0 k.1 (sym (ap is_opaque_key k.1) ∙ opaque)) in
     let decided = answered held id call c.args.out.now c.compute.new.out c.compute.result m k.0 c.number.result k.1 there none c.compute.ensures.computed in
     ends_computed g.D.Disk g.A.Devices g.C.Admission g.met.D.Disk.only_now old c.compute.new.devices start opening h all e
-    (model_call call id (length c.args.out.now)) (mark_computed c.compute.result) (IsAnswered held id call c.args.out.now c.compute.new.out c.compute.result) s is (keeps_keys call id (length c.args.out.now))
+    (model_call call id (length c.args.out.now)) (mark_computed c.compute.result) (IsElementAnswered held id call c.args.out.now c.compute.new.out c.compute.result) s is (keeps_keys call id (length c.args.out.now))
     c.compute.ensures.keys c.compute.ensures.locations
     (fault_of c.compute.result _ (last_counts opening.counts h) e (λ failed.
     subst (Rose (last_counts opening.counts h).device_faults) (sym turn.device_faults) (subst (λ n. Rose n (g.A.Devices.faults c.compute.new.devices)) (sym (ap (λ (x : FaultCounts). x.device_faults) s.counts)) (c.compute.ensures.failed failed))))
@@ -61,5 +61,5 @@ returns-in-Err-clause-made g c = λ start opening h all e s is turn.
     let rows = checked_rows call k.0 c.class.result c.usage.result.0 c.algorithm.result.0 c.check_use.result c.class.ensures c.usage.ensures c.algorithm.ensures
     (c.check_use.ensures.refusal k.0 (sym k.2.attributes ∙ sym c.attributes-attributes.ensures)) in
     ends_computed g.D.Disk g.A.Devices g.C.Admission g.met.D.Disk.only_now old old.devices start opening h all e
-    (model_call call id (length out)) Plain (IsAnswered held id call out out (Err (Refused c.in-Err.status))) s is (keeps_keys call id (length out)) refl refl tt (λ service same. tt)
+    (model_call call id (length out)) Plain (IsElementAnswered held id call out out (Err (Refused c.in-Err.status))) s is (keeps_keys call id (length out)) refl refl tt (λ service same. tt)
     (unused held id call out (counted m) k.0 c.in-Err.status k.1 (unless-err (first_row (key_rows call (Some k.0))) tt c.in-Err.status (sym rows ∙ c.in-Err.is))) turn

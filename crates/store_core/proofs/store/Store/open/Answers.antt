@@ -1,11 +1,11 @@
 use Rattle.std.proofs.Common.{IfSome, List, None, Option, Some, ap, arith, count_by, inl, refl, subst, sym, true, ℕ, ◌∙◌, ◌≤◌}
-use Rattle.store_core.proofs.Common.{IsClear, IsOpened, IsRefused, KeyFile, KeySlots, Lacks, Memory, is_open}
+use Rattle.store_core.proofs.Common.{IsClear, IsOpened, IsOpeningRefused, KeyFile, KeySlots, Lacks, Memory, is_open}
 use Rattle.disk_face.specs.declared.Disk as Disk
 use Rattle.store_core.proofs.Started.{IsNew, starts, exactly, stands}
 use Rattle.store_core.proofs.store.Store.open.Goals as goal
 
 -- a disk that no call was made to
-uncalled : {D : Type 0} (disks : Disk.Ghosts D) (disk : D) → IsRefused disks disk disk Memory
+uncalled : {D : Type 0} (disks : Disk.Ghosts D) (disk : D) → IsOpeningRefused disks disk disk Memory
 uncalled disks disk = record {
   caused = always (disks.contents disk) (λ image. tt);
   tells = refl;
@@ -28,12 +28,12 @@ is_new : (g : _) (c : goal.After-with_file g) →
 is_new g c =
     let e = c.with_file.ensures in
     record {
-      file = subst (λ (f : KeyFile _). IsOpened g.D.Disk c.args.disk f.cells.disk f.cells.slots.items) (sym e.file) c.in-Ok-open.ensures.opened;
+      file = subst (λ (f : KeyFile _). IsOpened g.D.Disk c.args.disk f.cells.disk f.cells.states.items) (sym e.file) c.in-Ok-open.ensures.opened;
       slots = ap (λ (s : KeySlots). s.table.slots) e.slots ∙ c.in-Ok.ensures.slots;
       made = e.made;
       live = e.live;
-      kept = e.kept ∙ ap (λ (f : KeyFile _). count_by is_open f.cells.slots.items) (sym e.file);
-      found = e.found ∙ ap (λ (f : KeyFile _). count_by is_open f.cells.slots.items) (sym e.file);
+      kept = e.kept ∙ ap (λ (f : KeyFile _). count_by is_open f.cells.states.items) (sym e.file);
+      found = e.found ∙ ap (λ (f : KeyFile _). count_by is_open f.cells.states.items) (sym e.file);
       ranked = e.ranked;
       saw_file = e.saw_file ∙ sym e.file;
       saw_devices = e.saw_devices ∙ sym e.devices;

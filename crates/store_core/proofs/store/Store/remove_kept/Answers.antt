@@ -15,7 +15,7 @@ overflow_sub-self g c =
     let s = c.requires.stands.4.holds in
     let sized = s.directory.sized in
     let there = c.requires.there.within in
-    let k = key_of_cell c.args.self.now.file.cells.slots.items s.model c.args.id.0 c.args.cell s.directory (omega arith) c.requires.there.here in
+    let k = key_of_cell c.args.self.now.file.cells.states.items s.model c.args.id.0 c.args.cell s.directory (omega arith) c.requires.there.here in
     let fewer = fewer_kept s.model c.args.id.0 k.0 k.1 s.sound k.2 in
     let was = s.kept in
     omega arith
@@ -27,9 +27,9 @@ returns-in-Ok-clause-destroyed g c = λ start opening h all e s call is.
     let sized = s.holds.directory.sized in
     let there = c.requires.there.within in
     let within : c.args.cell < 512 = omega arith in
-    let key = key_of_cell c.args.self.now.file.cells.slots.items m c.args.id.0 c.args.cell s.holds.directory within c.requires.there.here in (
+    let key = key_of_cell c.args.self.now.file.cells.states.items m c.args.id.0 c.args.cell s.holds.directory within c.requires.there.here in (
       destroys_kept g.D.Disk g.A.Devices g.C.Admission g.met.D.Disk.only_now c.args.self.now start opening h all e c.args.id.0 call c.destroy-closed.new.self c.destroy.new.self Plain c.args.cell s
-          (record { within = within; key = c.requires.there.here; sized = ensures.slots; missing = ensures.missing; tells = ensures.tells; leads = λ keys keys' doubt own stands there put. ensures.destroyed keys keys' doubt stands put; settles = λ own doubt none. set_sure c.args.self.now.file.cells.slots.items c.destroy-closed.new.self.cells.slots.items c.args.cell Free refl ensures.gone })
+          (record { within = within; key = c.requires.there.here; sized = ensures.states; missing = ensures.missing; tells = ensures.tells; leads = λ keys keys' doubt own stands there put. ensures.destroyed keys keys' doubt stands put; settles = λ own doubt none. set_sure c.args.self.now.file.cells.states.items c.destroy-closed.new.self.cells.states.items c.args.cell Free refl ensures.gone })
           c.destroy.ensures.forgets tt (λ service persistent. tt) is,
       rows_there c.args.id.0 (map.get m.keys c.args.id.0) key.0 key.1,
     )
@@ -44,15 +44,15 @@ returns-in-Err-clause-failed g c = λ start opening h all e s call is.
     let sized = s.holds.directory.sized in
     let there = c.requires.there.within in
     let within : c.args.cell < 512 = omega arith in
-    let key = key_of_cell old.slots.items m c.args.id.0 c.args.cell s.holds.directory within c.requires.there.here in (
+    let key = key_of_cell old.states.items m c.args.id.0 c.args.cell s.holds.directory within c.requires.there.here in (
       destroys_kept g.D.Disk g.A.Devices g.C.Admission g.met.D.Disk.only_now c.args.self.now start opening h all e c.args.id.0 call c.destroy-closed.new.self c.destroy.new.self (Storage (Writing closed)) c.args.cell s
           (record {
             within = within;
             key = c.requires.there.here;
-            sized = ensures.slots;
+            sized = ensures.states;
             missing = ensures.missing;
             tells = ensures.tells;
-            leads = λ keys keys' doubt own stands there put. subst (Leads g.D.Disk old.disk new.disk old.slots.items new.slots.items keys doubt keys') (undestroyed_doubt closed own doubt)
+            leads = λ keys keys' doubt own stands there put. subst (Leads g.D.Disk old.disk new.disk old.states.items new.states.items keys doubt keys') (undestroyed_doubt closed own doubt)
                 (ensures.failed keys keys' doubt own stands there put);
             settles = λ own doubt none. absurd (still_doubted closed own doubt none);
           })
@@ -68,7 +68,7 @@ returns-in-Err-clause-zeros g c = λ keys doubt stands.
     let old = c.args.self.now.file.cells in
     let sized = c.requires.stands.4.holds.directory.sized in
     let there = c.requires.there.within in
-    let k = file.key_of_cell g.D.Disk old.disk old.slots.items keys doubt c.args.id.0 c.args.cell (omega arith) c.requires.there.here stands in
+    let k = file.key_of_cell g.D.Disk old.disk old.states.items keys doubt c.args.id.0 c.args.cell (omega arith) c.requires.there.here stands in
     (c.in-Err.ensures.failed keys (keys_put keys c.args.id.0 None) doubt k.0 stands k.1 (λ other. refl)).zeros
 
 pub returns-in-Ok-clause-freed : goal.returns-in-Ok-clause-freed
@@ -76,7 +76,7 @@ returns-in-Ok-clause-freed g c =
     let s = c.requires.stands.4.holds in
     let sized = s.directory.sized in
     let there = c.requires.there.within in
-    freed c.args.self.now.file.cells.slots.items c.destroy-closed.new.self.cells.slots.items s.model c.args.id.0 c.args.cell s.directory (omega arith) c.requires.there.here c.in-Ok.ensures.gone
+    freed c.args.self.now.file.cells.states.items c.destroy-closed.new.self.cells.states.items s.model c.args.id.0 c.args.cell s.directory (omega arith) c.requires.there.here c.in-Ok.ensures.gone
 
 pub returns-in-Ok-clause-forgotten : goal.returns-in-Ok-clause-forgotten
 returns-in-Ok-clause-forgotten g c = λ i lt has.
@@ -84,4 +84,4 @@ returns-in-Ok-clause-forgotten g c = λ i lt has.
     let old = c.args.self.now in
     let sized = s.directory.sized in
     let there = c.requires.there.within in
-    kept_forgotten old.file.cells.slots.items old.slots.table.slots s.model c.requires.stands.3 c.args.id.0 c.args.cell i (g.A.Devices.keys old.devices) s.directory s.sound s.slots (omega arith) c.requires.there.here lt has
+    kept_forgotten old.file.cells.states.items old.slots.table.slots s.model c.requires.stands.3 c.args.id.0 c.args.cell i (g.A.Devices.keys old.devices) s.directory s.sound s.slots (omega arith) c.requires.there.here lt has

@@ -4,7 +4,7 @@ use Rattle.store_core.proofs.store.Store.with_file.Goals as goal
 
 pub overflow_cast-result : goal.overflow_cast-result
 overflow_cast-result g c =
-    let few = count_by-le-length is_open c.args.file.cells.slots.items in
+    let few = count_by-le-length is_open c.args.file.cells.states.items in
     let sized = c.requires.sized in
     let count = c.count-count.ensures in
     omega (arith, few, sized, count)

@@ -1,0 +1,9 @@
+use Rattle.std.proofs.Common.{vec_len}
+use Rattle.caller_service.proofs.Common.{AreIdle}
+use Rattle.caller_service.proofs.allotments.Allotment.free.Given as goal
+
+abbrev pub invariant-loop-handle : goal.invariant-loop-handle
+invariant-loop-handle l = AreIdle l.handles.items
+
+abbrev pub decreases-loop-handle : goal.decreases-loop-handle
+decreases-loop-handle l = vec_len l.handles

@@ -1,8 +1,0 @@
-use Rattle.std.proofs.Common.{subst, sym}
-use Rattle.std.specs.Ordering.{nat_cmp}
-use Rattle.std.specs.FinMap as map
-use Rattle.driver_dispatch.specs.Calls.{Lacks}
-use Rattle.command_trials.proofs.rooms.without_keys.Goals as goal
-
-pub returns : goal.returns
-returns g c = λ handle. subst (λ held. Lacks held handle) (sym c.requires) (map.get-empty nat_cmp handle)

@@ -1,0 +1,17 @@
+use Rattle.key_cells.proofs.Common.{HasOneEach, IfSome, IsNamed, IsNumbered, ReadsBelow, count_by, is_open, length, take, ◌≡◌}
+use Rattle.key_cells.specs.Opened.{Calm}
+use Rattle.key_cells.proofs.reading.read_states.Given as goal
+
+abbrev pub invariant-loop-cell : goal.invariant-loop-cell
+invariant-loop-cell g l =
+    let d = g.D.Disk in
+    record {
+      size : d.size l.disk ≡ 557120;
+      count : length l.states.items ≡ 512;
+      read : IfSome (d.contents l.fn.disk) (λ image. ReadsBelow l.cell l.states.items image);
+      one : HasOneEach l.cell l.states.items;
+      numbered : IsNumbered l.cell l.states.items;
+      named : IsNamed l.cell l.states.items;
+      keys : l.found ≡ count_by is_open (take l.cell l.states.items);
+      calm : Calm d l.fn.disk l.disk;
+    }

@@ -1,6 +1,0 @@
-use Rattle.std.proofs.Common.{refl}
-use Rattle.operation_handles.proofs.Leases.{inactive}
-use Rattle.operation_handles.proofs.cell.Cell.new.Goals as goal
-
-pub returns-clause-state : goal.returns-clause-state
-returns-clause-state c = inactive _ c.requires refl

@@ -1,5 +1,0 @@
-use Rattle.std.proofs.Common.{refl}
-use Rattle.store_bench.proofs.room.RoomDisk.write_at.Goals as goal
-
-pub returns-clause-crash : goal.returns-clause-crash
-returns-clause-crash c = λ image left. (image, tt, record { front = refl; back = refl; same_length = refl })
