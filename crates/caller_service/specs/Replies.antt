@@ -1,19 +1,14 @@
 -- What is known of a call that is made by its name.
-use Rattle.std.specs.Prelude.{◌≡◌, ◌≤◌, ◌<◌, ◌+◌, ℕ, List, Err, IfSome, IfNone, length, Result}
+use Rattle.std.specs.Prelude.{◌≡◌, ◌≤◌, ℕ, List, IfSome, IfNone, length, Result}
 use Rattle.std.specs.Result.{result_map_both}
 use Rattle.psa_status.specs.declared.Status.{Status}
-use Rattle.psa_status.specs.declared.Status.TheVariants.{PassWorn}
 use Rattle.service_calls.specs.declared.call.Call.{Call}
 use Rattle.service_calls.specs.declared.call.Call.TheVariants.{OnHandle}
 use Rattle.service_calls.specs.declared.handle_calls.HandleCall.TheVariants as handle_call
 use Rattle.service_calls.specs.declared.steps.Step.{Step}
 use Rattle.service_calls.specs.declared.output.Output.{Output}
 use Rattle.service_calls.specs.Meanings.{model_request}
-use Rattle.store_model.specs.Prelude.{HandleOperation}
-use Rattle.callers.specs.Budget.{asked_for, counted_by}
-use Rattle.callers.specs.Called.{IsAnswered}
-use Rattle.callers.specs.Handles.{AreOperations}
-use Rattle.callers.specs.Ready.{IsReady}
+use Rattle.callers.specs.Prelude.{HasCounted, IsAnswered, IsOverBudget, IsReady}
 use Rattle.disk_face.specs.declared.Disk as Disk
 use Rattle.driver_dispatch.specs.declared.devices.Devices as Devices
 use Rattle.admission.specs.declared.rules.Admission as Admission
@@ -44,7 +39,5 @@ module _ {D A C G : Type 0} {d : Disk.Ghosts D} {a : Devices.Ghosts A} {c : Admi
     pub given_is : reply.result ≡ reads given answer
     pub again : MayCall new
     pub ranked : IfSome reply.rank (λ rank. IsAnswered (world service.shared) old.pass.me.0 new.pass.me.0 (model_request call (length out_old)) rank answer out_old out_new)
-    pub counts : IfSome reply.rank (λ rank. (operations : List HandleOperation) → AreOperations old.handles.list.items operations →
-        (old.spent + asked_for call operations ≤ service.worn) × (new.spent ≡ old.spent + counted_by call operations answer))
-    pub worn : IfNone reply.rank ((operations : List HandleOperation) → AreOperations old.handles.list.items operations →
-        (service.worn < old.spent + asked_for call operations) × (answer ≡ Err PassWorn) × (new ≡ old) × (out_new ≡ out_old))
+    pub counts : IfSome reply.rank (λ rank. HasCounted old new service.worn call answer)
+    pub worn : IfNone reply.rank (IsOverBudget old new service.worn call answer out_old out_new)

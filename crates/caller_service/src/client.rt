@@ -1,6 +1,7 @@
 // A caller that makes its calls by their names, and the one way in which they are made.
 ghost use Rattle.std.specs.Prelude.{◌≡◌, ◌≤◌, []};
 ghost use Rattle.service_calls.specs.Asked.{computes, sets_up_with};
+ghost use Rattle.caller_service.specs.Given.{nothing};
 ghost use Rattle.caller_service.specs.Replies.{MayCall, steps_on};
 
 use crate::replies::{Given, Reply};
@@ -20,27 +21,6 @@ pub struct Client<'a, D: Disk, A: Devices, C: Admission, G: Gate, R> {
     service: &'a Service<D, A, C, G>,
     caller: Caller<D, A, C>,
     ghost may_call: { ∥ MayCall service.now caller ∥₁ },
-}
-
-/// A step of the operation at a handle.
-pub(crate) fn step_on<'a>(op: Op, step: Step<'a>) -> Call<'a>
-    ensures { result ≡ steps_on op step.entry }
-{
-    Call::OnHandle(op, HandleCall::Step(step))
-}
-
-/// What begins an operation with this key.
-pub(crate) fn set_up_with<'a>(op: Op, key: KeyId, purpose: Purpose, alg: Alg) -> Call<'a>
-    ensures { result ≡ sets_up_with op key purpose alg }
-{
-    Call::OnHandle(op, HandleCall::set_up_with(key, purpose, alg))
-}
-
-/// A computation with this key.
-pub(crate) fn compute<'a>(key: KeyId, call: KeyedCall<'a>) -> Call<'a>
-    ensures { result ≡ computes key call.entry }
-{
-    Call::OnStore(StoreCall::compute(key, call))
 }
 
 impl<D: Disk, A: Devices, C: Admission, G: Gate> Service<D, A, C, G> {
@@ -109,5 +89,38 @@ impl<D: Disk, A: Devices, C: Admission, G: Gate, R: Wait> Client<'_, D, A, C, G,
         ensures { Answers call.now T.given self.old self.new [] [] result }
     {
         self.ask(call, &mut [])
+    }
+
+    /// Begins an operation with this key.
+    pub(crate) fn begin(&mut self, op: Op, key: KeyId, purpose: Purpose, alg: Alg) -> Reply<()>
+        ensures { Answers (sets_up_with op key purpose alg) nothing self.old self.new [] [] result }
+    {
+        self.tell(&Call::OnHandle(op, HandleCall::set_up_with(key, purpose, alg)))
+    }
+
+    /// Makes a step of the operation at a handle.
+    pub(crate) fn step<T: Given>(&mut self, op: Op, step: Step<'_>, out: &mut [u8]) -> Reply<T>
+        ensures { Answers (steps_on op step.entry) T.given self.old self.new out.old out.new result }
+    {
+        self.ask(&Call::OnHandle(op, HandleCall::Step(step)), out)
+    }
+
+    /// Makes a step that has no output buffer.
+    pub(crate) fn advance<T: Given>(&mut self, op: Op, step: Step<'_>) -> Reply<T>
+        ensures { Answers (steps_on op step.entry) T.given self.old self.new [] [] result }
+    {
+        self.tell(&Call::OnHandle(op, HandleCall::Step(step)))
+    }
+
+    /// Computes with this key.
+    pub(crate) fn compute<T: Given>(
+        &mut self,
+        key: KeyId,
+        call: KeyedCall<'_>,
+        out: &mut [u8],
+    ) -> Reply<T>
+        ensures { Answers (computes key call.entry) T.given self.old self.new out.old out.new result }
+    {
+        self.ask(&Call::OnStore(StoreCall::compute(key, call)), out)
     }
 }

@@ -8,7 +8,7 @@ ghost use Rattle.service_calls.specs.declared.store_calls.KeyedCall.TheVariants 
 ghost use Rattle.caller_service.specs.Given.{description_of, identifier_of, length_of, nothing};
 ghost use Rattle.caller_service.specs.Clients.{Answers};
 
-use crate::client::{Client, compute};
+use crate::client::Client;
 use crate::replies::Reply;
 use admission::Admission;
 use alg_encoding::Alg;
@@ -79,7 +79,7 @@ impl<D: Disk, A: Devices, C: Admission, G: Gate, R: Wait> Client<'_, D, A, C, G,
     pub fn export_key(&mut self, key: KeyId, out: &mut [u8]) -> Reply<usize>
         ensures { Answers (computes key keyed.Export) length_of self.old self.new out.old out.new result }
     {
-        self.ask(&compute(key, KeyedCall::Export), out)
+        self.compute(key, KeyedCall::Export, out)
     }
 
     /// Writes the hash of a message, and gives its length. `BufferTooSmall` without room for it.
@@ -107,14 +107,15 @@ impl<D: Disk, A: Devices, C: Admission, G: Gate, R: Wait> Client<'_, D, A, C, G,
     ) -> Reply<usize>
         ensures { Answers (computes key (keyed.MacCompute alg input.entry)) length_of self.old self.new out.old out.new result }
     {
-        self.ask(&compute(key, KeyedCall::MacCompute { alg, input }), out)
+        self.compute(key, KeyedCall::MacCompute { alg, input }, out)
     }
 
     /// Compares the MAC of a message with the one expected. `InvalidSignature` where they differ, in length or bytes.
     pub fn mac_verify(&mut self, key: KeyId, alg: Alg, input: &[u8], mac: &[u8]) -> Reply<()>
         ensures { Answers (computes key (keyed.MacVerify alg input.entry mac.entry)) nothing self.old self.new [] [] result }
     {
-        self.tell(&compute(key, KeyedCall::MacVerify { alg, input, mac }))
+        let call = KeyedCall::MacVerify { alg, input, mac };
+        self.tell(&Call::OnStore(StoreCall::compute(key, call)))
     }
 
     /// Writes a fresh initialisation vector, where the mode has one, and the ciphertext behind it, and gives their length.
@@ -128,7 +129,7 @@ impl<D: Disk, A: Devices, C: Admission, G: Gate, R: Wait> Client<'_, D, A, C, G,
     ) -> Reply<usize>
         ensures { Answers (computes key (keyed.CipherEncrypt alg input.entry)) length_of self.old self.new out.old out.new result }
     {
-        self.ask(&compute(key, KeyedCall::CipherEncrypt { alg, input }), out)
+        self.compute(key, KeyedCall::CipherEncrypt { alg, input }, out)
     }
 
     /// Writes the plaintext of an input that begins with its initialisation vector, and gives its length. `InvalidPadding` where
@@ -142,7 +143,7 @@ impl<D: Disk, A: Devices, C: Admission, G: Gate, R: Wait> Client<'_, D, A, C, G,
     ) -> Reply<usize>
         ensures { Answers (computes key (keyed.CipherDecrypt alg input.entry)) length_of self.old self.new out.old out.new result }
     {
-        self.ask(&compute(key, KeyedCall::CipherDecrypt { alg, input }), out)
+        self.compute(key, KeyedCall::CipherDecrypt { alg, input }, out)
     }
 
     /// Writes a ciphertext and its tag behind it, and gives their length. `InvalidArgument` for a nonce or a length that the
@@ -164,7 +165,7 @@ impl<D: Disk, A: Devices, C: Admission, G: Gate, R: Wait> Client<'_, D, A, C, G,
             ad,
             input,
         };
-        self.ask(&compute(key, call), out)
+        self.compute(key, call, out)
     }
 
     /// Writes the plaintext of an input that ends with its tag, and gives its length. `InvalidSignature` where the tag isn't the
@@ -186,6 +187,6 @@ impl<D: Disk, A: Devices, C: Admission, G: Gate, R: Wait> Client<'_, D, A, C, G,
             ad,
             input,
         };
-        self.ask(&compute(key, call), out)
+        self.compute(key, call, out)
     }
 }

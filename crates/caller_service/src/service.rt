@@ -1,15 +1,11 @@
 //! The service, and how it is opened and closed.
-ghost use Rattle.std.specs.Prelude.{◌≡◌, ◌≤◌, ◌<◌, ◌+◌, ◌^◌, ℕ, List, [], All, IfOk, IfErr, IfSome, IfNone, Err, length, vec_capacity, vec_len};
-ghost use Rattle.psa_status.specs.declared.Status.TheVariants.{PassWorn};
+ghost use Rattle.std.specs.Prelude.{◌≡◌, ◌≤◌, ◌^◌, ℕ, [], All, IfOk, IfErr, IfSome, IfNone, length, vec_capacity, vec_len};
 ghost use Rattle.driver_dispatch.specs.Calls.{Lacks};
 ghost use Rattle.turn_history.specs.Prelude.{AreNew};
 ghost use Rattle.service_calls.specs.Meanings.{model_request};
-ghost use Rattle.store_model.specs.Prelude.{HandleOperation, Service as model_Service, IsSoundStore};
+ghost use Rattle.store_model.specs.Prelude.{Service as model_Service, IsSoundStore};
 ghost use Rattle.locked_store.specs.Prelude.{FindsKeysIn, IsNotOpened, IsOpenedOn, IsStartOf, world};
-ghost use Rattle.callers.specs.Budget.{asked_for, counted_by};
-ghost use Rattle.callers.specs.Called.{IsAnswered};
-ghost use Rattle.callers.specs.Handles.{AreOperations};
-ghost use Rattle.callers.specs.Ready.{IsReady};
+ghost use Rattle.callers.specs.Prelude.{HasCounted, IsAnswered, IsOverBudget, IsReady};
 ghost use Rattle.caller_service.specs.Closing.{IsClosedOver, WereRetired};
 ghost use Rattle.caller_service.specs.Allotments.{IsAllotment};
 ghost use Rattle.caller_service.specs.Staff.{AreStaff};
@@ -163,10 +159,8 @@ impl<D: Disk, A: Devices, C: Admission, G: Gate> Service<D, A, C, G> {
         ensures ready { IsReady (world self.now.shared) 0 caller.new }
         ensures within { caller.new.spent ≤ self.now.worn }
         ensures ranked { IfSome result.0 (λ rank. IsAnswered (world self.now.shared) caller.old.pass.me.0 caller.new.pass.me.0 (model_request call.now (length out.old)) rank result.1 out.old out.new) }
-        ensures counts { IfSome result.0 (λ rank. (operations : List HandleOperation) → AreOperations caller.old.handles.list.items operations →
-            (caller.old.spent + asked_for call.now operations ≤ self.now.worn) × (caller.new.spent ≡ caller.old.spent + counted_by call.now operations result.1)) }
-        ensures worn { IfNone result.0 ((operations : List HandleOperation) → AreOperations caller.old.handles.list.items operations →
-            (self.now.worn < caller.old.spent + asked_for call.now operations) × (result.1 ≡ Err PassWorn) × (caller.new ≡ caller.old) × (out.new ≡ out.old)) }
+        ensures counts { IfSome result.0 (λ rank. HasCounted caller.old caller.new self.now.worn call.now result.1) }
+        ensures worn { IfNone result.0 (IsOverBudget caller.old caller.new self.now.worn call.now result.1 out.old out.new) }
     {
         let answer = caller.answer(rt, &self.shared, &self.gate, self.worn, call, out);
         self.gate

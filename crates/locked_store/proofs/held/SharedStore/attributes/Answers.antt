@@ -25,6 +25,9 @@ turned g c =
       err = IfErr-weaker c.attributes-found.result _ _ (λ status read. turned_after t call (mark_of status) own (IsRefused there_rows c.args.id.0 status) k (reads t c.attributes-found.new.self call c.args.id.0 (mark_of status) (IsRefused there_rows c.args.id.0 status) read c.requires.quiet c.requires.reads)) l.refused;
     }
 
+pub leave_ranked-rank-requires-clause-begun : goal.leave_ranked-rank-requires-clause-begun
+leave_ranked-rank-requires-clause-begun g c κs within = rw c.of-before.ensures c.enter-turn.ensures.begun
+
 pub leave_ranked-rank-requires-clause-stands : goal.leave_ranked-rank-requires-clause-stands
 leave_ranked-rank-requires-clause-stands g c κs within = rw c.of.ensures (turned_stands c.attributes-found.result (turned g (goal.at.leave_ranked-rank-requires-clause-stands g c).After-of))
 

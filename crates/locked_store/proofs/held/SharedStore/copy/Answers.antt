@@ -28,6 +28,9 @@ turned g c =
       err = IfErr-weaker c.copy-copied.result _ _ (λ why made. turned_before t call (mark_uncopied why) own (IsUncopied (RecordsCopy c.args.caller c.args.source.0 c.args.attributes.now) c.args.source.0 why) k (copies t c.copy-copied.new.self call c.args.caller c.args.source.0 c.args.attributes.now (filling_pair c.args.filling) (mark_uncopied why) (IsUncopied (RecordsCopy c.args.caller c.args.source.0 c.args.attributes.now) c.args.source.0 why) k made c.requires.at.holding c.requires.out c.requires.caller c.requires.copies)) l.uncopied;
     }
 
+pub leave_ranked-rank-requires-clause-begun : goal.leave_ranked-rank-requires-clause-begun
+leave_ranked-rank-requires-clause-begun g c κs within = rw c.of-before.ensures c.enter-turn.ensures.begun
+
 pub leave_ranked-rank-requires-clause-stands : goal.leave_ranked-rank-requires-clause-stands
 leave_ranked-rank-requires-clause-stands g c κs within = rw (c.of.ensures, c.of-2.ensures) (turned_stands c.copy-copied.result (turned g (goal.at.leave_ranked-rank-requires-clause-stands g c).After-of-2))
 

@@ -25,6 +25,9 @@ turned g c =
       err = IfErr-weaker c.destroy-destroyed.result _ _ (λ why failed. turned_before t call (mark_undestroyed why) own (IsUndestroyed c.args.id.0 why) k (destroys t c.destroy-destroyed.new.self call c.args.id.0 (mark_undestroyed why) (IsUndestroyed c.args.id.0 why) failed c.requires.destroys)) l.failed;
     }
 
+pub leave_ranked-rank-requires-clause-begun : goal.leave_ranked-rank-requires-clause-begun
+leave_ranked-rank-requires-clause-begun g c κs within = rw c.of-before.ensures c.enter-turn.ensures.begun
+
 pub leave_ranked-rank-requires-clause-stands : goal.leave_ranked-rank-requires-clause-stands
 leave_ranked-rank-requires-clause-stands g c κs within = rw c.of.ensures (turned_stands c.destroy-destroyed.result (turned g (goal.at.leave_ranked-rank-requires-clause-stands g c).After-of))
 

@@ -29,6 +29,9 @@ turned g c =
       err = IfErr-weaker c.finish-made.result _ _ (λ why made. turned_before t call (mark_unmade why) own (IsUnmade (RecordsStated (option_map (λ l. l.now) c.args.lease) c.args.caller c.args.attributes.now (length c.args.bytes.now)) why) k (creates t c.finish-made.new.self call c.args.caller (option_map (λ l. l.now) c.args.lease) (RecordsStated (option_map (λ l. l.now) c.args.lease) c.args.caller c.args.attributes.now (length c.args.bytes.now)) c.args.bytes.now (filling_pair c.args.filling) (mark_unmade why) (IsUnmade (RecordsStated (option_map (λ l. l.now) c.args.lease) c.args.caller c.args.attributes.now (length c.args.bytes.now)) why) made c.requires.at.holding c.requires.out c.requires.lent c.requires.caller c.requires.creates)) l.unmade;
     }
 
+pub leave_ranked-rank-requires-clause-begun : goal.leave_ranked-rank-requires-clause-begun
+leave_ranked-rank-requires-clause-begun g c κs within = rw c.of-before.ensures c.enter-turn.ensures.begun
+
 pub leave_ranked-rank-requires-clause-stands : goal.leave_ranked-rank-requires-clause-stands
 leave_ranked-rank-requires-clause-stands g c κs within = rw (c.of.ensures, c.of-2.ensures) (turned_stands c.finish-made.result (turned g (goal.at.leave_ranked-rank-requires-clause-stands g c).After-of-2))
 

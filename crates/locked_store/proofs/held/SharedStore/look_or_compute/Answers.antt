@@ -24,3 +24,15 @@ returns-in-Err-clause-looked g c =
     let found = IfErr-at_err (λ refused. IsEnteredAfter c.of-before.result.value.me.0 c.look_in-rank.new.pass.me.0 (model_request c.args.call.now (length c.args.out.now)) (mark_of refused.0) c.look_in-rank.result.0 c.of-before.result.value.me.0.holding (entries_of c.enter-turn.new.pass.me.0.seen) (DecidesAfter (world c.args.self.now) (IsRefused (use_refusal c.args.wanted) c.args.id.0 refused.0))) c.in-Err.is c.look_in-rank.ensures.refused in
     let not_opaque = decided_now t (λ m. is_opaque_key (map.get m.keys c.args.id.0) ≡ false) found.entry (rw c.if-is_opaque.false at c.is_opaque.ensures) in
     (refl, IfErr-at_err (λ refused. IsClear refused.1) c.in-Err.is c.look_in-rank.ensures.spare, ranked (subst (λ q. IsEntered q.me.0 c.look_in-rank.new.pass.me.0 (model_request c.args.call.now (length c.args.out.now)) (mark_of c.in-Err.status) c.look_in-rank.result.0 q.me.0.holding (entries_of c.enter-turn.new.pass.me.0.seen) found.entry) c.of-before.ensures found.entered) (found.decided, not_opaque))
+
+pub compute_in-rank-requires-clause-begun : goal.compute_in-rank-requires-clause-begun
+compute_in-rank-requires-clause-begun g c κs within = rw c.of-before.ensures c.enter-turn.ensures.begun
+
+pub look_in-rank-requires-clause-begun : goal.look_in-rank-requires-clause-begun
+look_in-rank-requires-clause-begun g c κs within = rw c.of-before.ensures c.enter-turn.ensures.begun
+
+pub look_in-rank-requires-clause-holding : goal.look_in-rank-requires-clause-holding
+look_in-rank-requires-clause-holding g c κs within = rw c.of-before.ensures c.requires.at.holding
+
+pub look_in-rank-requires-clause-space : goal.look_in-rank-requires-clause-space
+look_in-rank-requires-clause-space g c κs within = rw c.of-before.ensures c.requires.space

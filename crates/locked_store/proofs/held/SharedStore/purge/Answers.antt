@@ -27,6 +27,9 @@ either : {T E X : Type 0} (result : Result T E) → IfOk result (λ _. X) → If
 either (Ok _) ok err = ok
 either (Err _) ok err = err
 
+pub leave_ranked-rank-requires-clause-begun : goal.leave_ranked-rank-requires-clause-begun
+leave_ranked-rank-requires-clause-begun g c κs within = rw c.of-before.ensures c.enter-turn.ensures.begun
+
 pub leave_ranked-rank-requires-clause-stands : goal.leave_ranked-rank-requires-clause-stands
 leave_ranked-rank-requires-clause-stands g c κs within =
     either c.purge-purged.result (IfOk-weaker c.purge-purged.result _ _ (λ _ turned. turned.stands) (there g (goal.at.leave_ranked-rank-requires-clause-stands g c).After-purge-purged)) (IfErr-weaker c.purge-purged.result _ _ (λ _ turned. turned.1.stands) (missing g (goal.at.leave_ranked-rank-requires-clause-stands g c).After-purge-purged))

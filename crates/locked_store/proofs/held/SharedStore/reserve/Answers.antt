@@ -7,6 +7,9 @@ use Rattle.locked_store.proofs.held.SharedStore.reserve.Goals as goal
 pub reserve-filling-requires-clause-stands : goal.reserve-filling-requires-clause-stands
 reserve-filling-requires-clause-stands g c κs within = stands_some (in_turn c.enter-turn.ensures.begun c.enter-turn.ensures.stands c.enter-turn.ensures.opened (ap (λ v. v.store) c.value.ensures.value))
 
+pub leave_unranked-requires-clause-begun : goal.leave_unranked-requires-clause-begun
+leave_unranked-requires-clause-begun g c κs within = rw c.of-before.ensures c.enter-turn.ensures.begun
+
 pub leave_unranked-requires-clause-stands : goal.leave_unranked-requires-clause-stands
 leave_unranked-requires-clause-stands g c κs within =
     let t = in_turn c.enter-turn.ensures.begun c.enter-turn.ensures.stands c.enter-turn.ensures.opened (ap (λ v. v.store) c.value.ensures.value) in
