@@ -1,4 +1,4 @@
-use Rattle.std.proofs.Common.{inl, Option, [], ap, refl, subst, sym, ℕ, ◌++◌, ◌∙◌, ◌∷◌, ◌≡◌}
+use Rattle.std.proofs.Common.{inl, Option, [], ap, arith, is_some, refl, subst, sym, ℕ, ◌++◌, ◌∙◌, ◌∷◌, ◌≡◌}
 use Rattle.store_core.proofs.Common.{Copy, Enters, Entry, IsEntry, IsOut, IsAboutToCreate, IsTold, IsUnkept, Key, OnStore, Plain, Store, buffer_of, bytes_of, course_of, durable_keys, last_counts, mark_unkept, new_id, ranked_on, recorded_copy, replay, slot_at}
 use Rattle.store_model.specs.Store as model
 use Rattle.store_core.proofs.Changing.{retold}
@@ -166,3 +166,51 @@ returns-in-Err-decide_copy-clause-zeros g c = λ start opening h all s tells. (c
 
 pub returns-in-Err-clause-zeros : goal.returns-in-Err-clause-zeros
 returns-in-Err-clause-zeros g c = λ start opening h all s tells. (c.bring.ensures.keeps (durable_keys s.holds.model) (course_of start h).doubt (s.holds.file tells)).zeros
+
+pub returns-in-Err-clause-later : goal.returns-in-Err-clause-later
+returns-in-Err-clause-later g c = record { disk = c.bring.ensures.later; devices = (let e = ap g.A.Devices.faults c.bring.ensures.devices in omega arith) }
+
+pub returns-in-Err-clause-tells : goal.returns-in-Err-clause-tells
+returns-in-Err-clause-tells g c = ap is_some c.bring.ensures.same
+
+pub returns-in-Err-clause-knows : goal.returns-in-Err-clause-knows
+returns-in-Err-clause-knows g c = ap (λ d. is_some (g.A.Devices.keys d)) c.bring.ensures.devices
+
+pub returns-in-Err-clause-opened : goal.returns-in-Err-clause-opened
+returns-in-Err-clause-opened g c = c.bring.ensures.opened
+
+pub returns-in-Err-decide_copy-clause-later : goal.returns-in-Err-decide_copy-clause-later
+returns-in-Err-decide_copy-clause-later g c = record { disk = c.bring.ensures.later; devices = (let e = ap g.A.Devices.faults c.bring.ensures.devices in omega arith) }
+
+pub returns-in-Err-decide_copy-clause-tells : goal.returns-in-Err-decide_copy-clause-tells
+returns-in-Err-decide_copy-clause-tells g c = ap is_some c.bring.ensures.same
+
+pub returns-in-Err-decide_copy-clause-knows : goal.returns-in-Err-decide_copy-clause-knows
+returns-in-Err-decide_copy-clause-knows g c = ap (λ d. is_some (g.A.Devices.keys d)) c.bring.ensures.devices
+
+pub returns-in-Err-decide_copy-clause-opened : goal.returns-in-Err-decide_copy-clause-opened
+returns-in-Err-decide_copy-clause-opened g c = c.bring.ensures.opened
+
+pub returns-in-Ok-made-clause-later : goal.returns-in-Ok-made-clause-later
+returns-in-Ok-made-clause-later g c = record { disk = (let a = c.bring.ensures.later in let b = c.create-made.ensures.later.disk in omega arith); devices = (let e = ap g.A.Devices.faults c.bring.ensures.devices in let b = c.create-made.ensures.later.devices in omega arith) }
+
+pub returns-in-Ok-made-clause-tells : goal.returns-in-Ok-made-clause-tells
+returns-in-Ok-made-clause-tells g c = c.create-made.ensures.tells ∙ ap is_some c.bring.ensures.same
+
+pub returns-in-Ok-made-clause-knows : goal.returns-in-Ok-made-clause-knows
+returns-in-Ok-made-clause-knows g c = c.create-made.ensures.knows ∙ ap (λ d. is_some (g.A.Devices.keys d)) c.bring.ensures.devices
+
+pub returns-in-Ok-made-clause-opened : goal.returns-in-Ok-made-clause-opened
+returns-in-Ok-made-clause-opened g c = c.create-made.ensures.opened ∙ c.bring.ensures.opened
+
+pub returns-in-Err-made-clause-later : goal.returns-in-Err-made-clause-later
+returns-in-Err-made-clause-later g c = record { disk = (let a = c.bring.ensures.later in let b = c.create-made.ensures.later.disk in omega arith); devices = (let e = ap g.A.Devices.faults c.bring.ensures.devices in let b = c.create-made.ensures.later.devices in omega arith) }
+
+pub returns-in-Err-made-clause-tells : goal.returns-in-Err-made-clause-tells
+returns-in-Err-made-clause-tells g c = c.create-made.ensures.tells ∙ ap is_some c.bring.ensures.same
+
+pub returns-in-Err-made-clause-knows : goal.returns-in-Err-made-clause-knows
+returns-in-Err-made-clause-knows g c = c.create-made.ensures.knows ∙ ap (λ d. is_some (g.A.Devices.keys d)) c.bring.ensures.devices
+
+pub returns-in-Err-made-clause-opened : goal.returns-in-Err-made-clause-opened
+returns-in-Err-made-clause-opened g c = c.create-made.ensures.opened ∙ c.bring.ensures.opened
