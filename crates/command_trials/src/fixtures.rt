@@ -19,7 +19,7 @@ use std::sync::Wait;
 use std::thread::Threads;
 
 /// The location of the secure element.
-const SECURE_ELEMENT: u32 = 1;
+pub const SECURE_ELEMENT: u32 = 1;
 
 /// A rule that stands alone. The book of a run has none, but holds rules of a type that contracts know.
 #[derive(Drop)]

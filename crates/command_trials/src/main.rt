@@ -1,11 +1,14 @@
-//! Tries the top call over disks, streams and a secure element in memory whose calls fail, and two sessions that meet within
-//! calls. Standard input has the sections to try, and says how one is written; for each of their runs the program prints how
-//! that ended, its replies, what it left in the cells, and what a second run tells of each image that a crash may leave.
+//! Tries the top call over disks, streams and a secure element in memory whose calls fail, two sessions that meet within
+//! calls, and the calls of a client. Standard input has the sections to try, and says how one is written; for each of their
+//! runs the program prints how that ended, its replies, what it left in the cells, and what a second run tells of each image
+//! that a crash may leave. Of a client's calls it prints what they leave of its buffers and of its budget.
 #![tactic(auto)]
 
 mod cells;
+mod client;
 mod crashes;
 mod fixtures;
+mod limits;
 mod meeting;
 mod sections;
 mod sinks;

@@ -25,6 +25,8 @@ pub enum Trial {
     DiskListed,
     /// Two sessions that meet.
     Meet,
+    /// The calls of a client.
+    Client,
 }
 
 impl Trial {
@@ -39,6 +41,7 @@ impl Trial {
             "write" => Some(Trial::Write),
             "disk_listed" => Some(Trial::DiskListed),
             "meet" => Some(Trial::Meet),
+            "client" => Some(Trial::Client),
             _ => None,
         }
     }
@@ -102,7 +105,7 @@ fn begin(
     let Some(numbers) = read_numbers(alloc, words)? else {
         return Ok(false);
     };
-    if numbers.is_empty() != matches!(trial, Trial::Meet) {
+    if numbers.is_empty() != matches!(trial, Trial::Meet | Trial::Client) {
         return Ok(false);
     }
     sections.push(Section {

@@ -1,4 +1,5 @@
 //! Trials of sections: their runs, and what is printed of each.
+use crate::client::try_client;
 use crate::crashes::{crashes, tell_end};
 use crate::fixtures::{Fixture, Ran, run};
 use crate::meeting::try_meeting;
@@ -44,6 +45,55 @@ fn behind_comment(alloc: Global, script: &[u8]) -> Result<Vec<u8>, AllocError> {
     Ok(long)
 }
 
+// What the run of a section reads.
+fn script_of(alloc: Global, section: &Section) -> Result<Vec<u8>, AllocError> {
+    match section.trial {
+        Trial::LeftOver => Ok(Vec::new(alloc)),
+        Trial::Read => behind_comment(alloc, section.script.bytes()),
+        _ => section.script.bytes().to_vec(alloc),
+    }
+}
+
+// Which of its reads fail.
+fn reads_of(alloc: Global, section: &Section, number: u64) -> Result<Vec<u64>, AllocError> {
+    match section.trial {
+        Trial::Read => range(alloc, number, number),
+        _ => Ok(Vec::new(alloc)),
+    }
+}
+
+// Which of its writes fails.
+fn write_of(section: &Section, number: u64) -> u64 {
+    match section.trial {
+        Trial::Write => number,
+        _ => u64::MAX,
+    }
+}
+
+// What its disk has at first.
+fn store_of<R: Threads + Wait + Sync>(
+    rt: &R,
+    alloc: Global,
+    section: &Section,
+) -> Result<Vec<u8>, AllocError> {
+    match section.trial {
+        Trial::LeftOver => store_left_over(rt, alloc, section.script.bytes()),
+        _ => Ok(Vec::new(alloc)),
+    }
+}
+
+// Which calls of its disk fail.
+fn disk_of(alloc: Global, section: &Section, number: u64) -> Result<Fails, AllocError> {
+    let listed = match section.trial {
+        Trial::DiskFrom | Trial::LeftOver => return Ok(Fails::From(number)),
+        Trial::DiskOnce => range(alloc, number, number)?,
+        Trial::DiskThrice => range(alloc, number, number.saturating_add(2))?,
+        Trial::DiskListed => section.numbers.to_vec(alloc)?,
+        _ => return Ok(Fails::From(u64::MAX)),
+    };
+    Ok(Fails::Listed(listed))
+}
+
 // The fixture of the run of a section for one of its numbers.
 fn room_of<R: Threads + Wait + Sync>(
     rt: &R,
@@ -51,29 +101,14 @@ fn room_of<R: Threads + Wait + Sync>(
     section: &Section,
     number: u64,
 ) -> Result<Fixture, AllocError> {
-    let script = section.script.bytes();
-    let mut fixture = Fixture::sound(alloc, script.to_vec(alloc)?, Vec::new(alloc));
-    fixture.element = section.element.to_vec(alloc)?;
-    match section.trial {
-        Trial::DiskFrom => fixture.disk = Fails::From(number),
-        Trial::DiskOnce => fixture.disk = Fails::Listed(range(alloc, number, number)?),
-        Trial::DiskThrice => {
-            fixture.disk = Fails::Listed(range(alloc, number, number.saturating_add(2))?);
-        }
-        Trial::DiskListed => fixture.disk = Fails::Listed(section.numbers.to_vec(alloc)?),
-        Trial::LeftOver => {
-            fixture.store = store_left_over(rt, alloc, script)?;
-            fixture.script = Vec::new(alloc);
-            fixture.disk = Fails::From(number);
-        }
-        Trial::Read => {
-            fixture.script = behind_comment(alloc, script)?;
-            fixture.reads = range(alloc, number, number)?;
-        }
-        Trial::Write => fixture.write = number,
-        Trial::Meet => {}
-    }
-    Ok(fixture)
+    Ok(Fixture {
+        script: script_of(alloc, section)?,
+        reads: reads_of(alloc, section, number)?,
+        write: write_of(section, number),
+        store: store_of(rt, alloc, section)?,
+        disk: disk_of(alloc, section, number)?,
+        element: section.element.to_vec(alloc)?,
+    })
 }
 
 // Prints how a run ended, what it left in the cells, how much of its replies was taken, and that.
@@ -85,6 +120,15 @@ fn tell_run(ran: &Ran, page: &mut Text) -> Result<(), AllocError> {
     page.add_replies(&ran.replies)
 }
 
+// Prints the heading of a section or of one of its runs.
+fn tell_heading(section: &Section, numbers: &[u64], page: &mut Text) -> Result<(), AllocError> {
+    page.add_heading(section.name.as_str(), numbers)?;
+    if section.element.is_empty() {
+        return Ok(());
+    }
+    page.add_heading("element", &section.element)
+}
+
 // Does a run of a section for one of its numbers, and prints what comes of it under this heading.
 fn try_run<R: Threads + Wait + Sync>(
     rt: &R,
@@ -94,10 +138,7 @@ fn try_run<R: Threads + Wait + Sync>(
     heading: &[u64],
     page: &mut Text,
 ) -> Result<(), AllocError> {
-    page.add_heading(section.name.as_str(), heading)?;
-    if !section.element.is_empty() {
-        page.add_heading("element", &section.element)?;
-    }
+    tell_heading(section, heading, page)?;
     let ran = run(rt, alloc, room_of(rt, alloc, section, number)?)?;
     tell_run(&ran, page)?;
     for crash in &crashes(rt, alloc, &ran.disk)? {
@@ -128,8 +169,12 @@ pub fn try_section<R: Threads + Wait + Sync>(
 ) -> Result<(), AllocError> {
     match section.trial {
         Trial::Meet => {
-            page.add_heading(section.name.as_str(), &[])?;
+            tell_heading(section, &[], page)?;
             try_meeting(rt, alloc, section.script.bytes(), page)
+        }
+        Trial::Client => {
+            tell_heading(section, &[], page)?;
+            try_client(rt, alloc, &section.element, page)
         }
         Trial::DiskListed => try_run(rt, alloc, section, 0, &section.numbers, page),
         _ => try_each(rt, alloc, section, page),

@@ -3,7 +3,7 @@ use Rattle.std.proofs.lemmas.List.Elements.{All-pop, All-push}
 use Rattle.callers.specs.Ready.{IsReady}
 use Rattle.locked_store.specs.Prelude.{world}
 use Rattle.caller_service.specs.Replies.{MayCall}
-use Rattle.library_trials.proofs.make_calls.Goals as goal
+use Rattle.command_trials.proofs.client.make_calls.Goals as goal
 
 pub client-client-requires-after_bounds : goal.client-client-requires-after_bounds
 client-client-requires-after_bounds g c κs within =

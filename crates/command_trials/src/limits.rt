@@ -1,6 +1,7 @@
 // The calls of a client that are refused or fail, and others beside them.
 ghost use Rattle.std.specs.Prelude.{◌≡◌};
 
+use crate::texts::Text;
 use admission::Admission;
 use alg_encoding::Alg;
 use caller_service::Client;
@@ -56,19 +57,17 @@ const ENCIPHERED: [u8; 32] = [
 // Adds a line: how many bytes a call gave, or its status, and all of its buffer.
 fn tell(
     alloc: Global,
-    page: &mut String,
+    page: &mut Text,
     given: Result<usize, Status>,
     buffer: &[u8],
 ) -> Result<(), AllocError> {
-    let bytes = hex::encode(alloc, buffer)?;
-    let line = match given {
-        Ok(count) => format!(in alloc; "{count} {bytes}\n")?,
-        Err(status) => {
-            let name = status.name();
-            format!(in alloc; "{name} {bytes}\n")?
-        }
-    };
-    page.push_str(&line)
+    match given {
+        Ok(count) => page.add_number(count as u64)?,
+        Err(status) => page.add(status.name())?,
+    }
+    page.add(" ")?;
+    page.add(&hex::encode(alloc, buffer)?)?;
+    page.add("\n")
 }
 
 // Makes an AES key. The answer is 0 where that fails.
@@ -97,29 +96,40 @@ fn import<D: Disk, A: Devices, C: Admission, R: Wait>(
         .unwrap_or(KeyId(0))
 }
 
+// Computes a MAC.
+fn compute_mac<D: Disk, A: Devices, C: Admission, R: Wait>(
+    client: &mut Client<'_, D, A, C, NoGate, R>,
+    alloc: Global,
+    page: &mut Text,
+    key: KeyId,
+    message: &[u8],
+    mac: &mut [u8],
+) -> Result<(), AllocError>
+    ensures { client.new.service.now ≡ client.old.service.now }
+{
+    let computed = client.mac_compute(key, Alg(CMAC), message, mac);
+    tell(alloc, page, computed.result, mac)
+}
+
 // Computes a MAC into buffers of 15 and of 17 bytes.
 fn compute_macs<D: Disk, A: Devices, C: Admission, R: Wait>(
     client: &mut Client<'_, D, A, C, NoGate, R>,
     alloc: Global,
-    page: &mut String,
+    page: &mut Text,
     key: KeyId,
     message: &[u8],
 ) -> Result<(), AllocError>
     ensures { client.new.service.now ≡ client.old.service.now }
 {
-    let mut short = [7; 15];
-    let refused = client.mac_compute(key, Alg(CMAC), message, &mut short);
-    tell(alloc, page, refused.result, &short)?;
-    let mut long = [7; 17];
-    let computed = client.mac_compute(key, Alg(CMAC), message, &mut long);
-    tell(alloc, page, computed.result, &long)
+    compute_mac(client, alloc, page, key, message, &mut [7; 15])?;
+    compute_mac(client, alloc, page, key, message, &mut [7; 17])
 }
 
 // Opens a sealed text with other associated data.
 fn open_sealed<D: Disk, A: Devices, C: Admission, R: Wait>(
     client: &mut Client<'_, D, A, C, NoGate, R>,
     alloc: Global,
-    page: &mut String,
+    page: &mut Text,
 ) -> Result<(), AllocError>
     ensures { client.new.service.now ≡ client.old.service.now }
 {
@@ -129,57 +139,106 @@ fn open_sealed<D: Disk, A: Devices, C: Admission, R: Wait>(
     tell(alloc, page, opened.result, &text)
 }
 
-// Deciphers a text, whose padding is then broken.
+// Deciphers a text.
 fn decipher<D: Disk, A: Devices, C: Admission, R: Wait>(
     client: &mut Client<'_, D, A, C, NoGate, R>,
     alloc: Global,
-    page: &mut String,
+    page: &mut Text,
+    key: KeyId,
+    input: &[u8],
+) -> Result<(), AllocError>
+    ensures { client.new.service.now ≡ client.old.service.now }
+{
+    let mut text = [7; 17];
+    let deciphered = client.cipher_decrypt(key, Alg(CBC_PKCS7), input, &mut text);
+    tell(alloc, page, deciphered.result, &text)
+}
+
+// Deciphers a text whole, and with its padding broken.
+fn decipher_twice<D: Disk, A: Devices, C: Admission, R: Wait>(
+    client: &mut Client<'_, D, A, C, NoGate, R>,
+    alloc: Global,
+    page: &mut Text,
 ) -> Result<(), AllocError>
     ensures { client.new.service.now ≡ client.old.service.now }
 {
     let key = import(client, VOLATILE, DECRYPT, CBC_PKCS7, b"an AES key of 16");
-    let mut input = ENCIPHERED;
-    let mut text = [7; 17];
-    let whole = client.cipher_decrypt(key, Alg(CBC_PKCS7), &input, &mut text);
-    tell(alloc, page, whole.result, &text)?;
-    input[15] ^= 1;
-    let mut text = [7; 17];
-    let broken = client.cipher_decrypt(key, Alg(CBC_PKCS7), &input, &mut text);
-    tell(alloc, page, broken.result, &text)
+    decipher(client, alloc, page, key, &ENCIPHERED)?;
+    let mut broken = ENCIPHERED;
+    broken[15] ^= 1;
+    decipher(client, alloc, page, key, &broken)
+}
+
+// Begins a hash.
+fn begin_hash<D: Disk, A: Devices, C: Admission, R: Wait>(
+    client: &mut Client<'_, D, A, C, NoGate, R>,
+    op: Op,
+)
+    ensures { client.new.service.now ≡ client.old.service.now }
+{
+    let _ = client.hash_setup(op, Alg(SHA_256));
+    let _ = client.hash_update(op, b"abc");
+}
+
+// Finishes a hash, and answers whether that counted.
+fn finish_hash<D: Disk, A: Devices, C: Admission, R: Wait>(
+    client: &mut Client<'_, D, A, C, NoGate, R>,
+    alloc: Global,
+    page: &mut Text,
+    op: Op,
+) -> Result<bool, AllocError>
+    ensures { client.new.service.now ≡ client.old.service.now }
+{
+    let mut hash = [7; 32];
+    let finished = client.hash_finish(op, &mut hash);
+    tell(alloc, page, finished.result, &hash)?;
+    Ok(finished.rank.is_some())
+}
+
+// Adds a line: whether a call had a rank, whether an operation was ended, and how much was counted.
+fn tell_spent(page: &mut Text, ranked: bool, ended: bool, spent: u64) -> Result<(), AllocError> {
+    page.add(if ranked {
+        "ranked true"
+    } else {
+        "ranked false"
+    })?;
+    page.add(if ended {
+        ", ended true"
+    } else {
+        ", ended false"
+    })?;
+    page.add(", counted ")?;
+    page.add_number(spent)?;
+    page.add("\n")
 }
 
 // Uses the budget up within a hash, and ends that: an abort is never refused.
 fn wear<D: Disk, A: Devices, C: Admission, R: Wait>(
     client: &mut Client<'_, D, A, C, NoGate, R>,
     alloc: Global,
-    page: &mut String,
+    page: &mut Text,
 ) -> Result<(), AllocError>
     ensures { client.new.service.now ≡ client.old.service.now }
 {
     let op = Op::first();
-    let _ = client.hash_setup(op, Alg(SHA_256));
-    let _ = client.hash_update(op, b"abc");
-    let mut hash = [7; 32];
-    let finished = client.hash_finish(op, &mut hash);
-    tell(alloc, page, finished.result, &hash)?;
-    let ranked = finished.rank.is_some();
+    begin_hash(client, op);
+    let ranked = finish_hash(client, alloc, page, op)?;
     let ended = client.abort(op).rank.is_some();
-    let spent = client.caller().spent();
-    page.push_str(&format!(in alloc; "ranked {ranked}, ended {ended}, counted {spent}\n")?)
+    tell_spent(page, ranked, ended, client.caller().spent())
 }
 
 /// Makes the calls.
 pub fn try_limits<D: Disk, A: Devices, C: Admission, R: Wait>(
     client: &mut Client<'_, D, A, C, NoGate, R>,
     alloc: Global,
-    page: &mut String,
+    page: &mut Text,
 ) -> Result<(), AllocError>
     ensures { client.new.service.now ≡ client.old.service.now }
 {
     let key = import(client, VOLATILE, SIGN, CMAC, &KEY);
     compute_macs(client, alloc, page, key, &MESSAGE)?;
     open_sealed(client, alloc, page)?;
-    decipher(client, alloc, page)?;
+    decipher_twice(client, alloc, page)?;
     let key = import(client, OF_THE_ELEMENT, SIGN, CMAC, &[0; 16]);
     compute_macs(client, alloc, page, key, b"")?;
     wear(client, alloc, page)
