@@ -120,7 +120,7 @@ returns-in-Err g c =
           let key = key_of_cell old.file.cells.states.items m c.args.id.0 c.args.cell s.holds.directory (omega arith) c.requires.there.here in
           brings g.D.Disk g.A.Devices g.C.Admission old c.load.new.self c.give_up.new.self c.load.new.out start opening h all e
           (λ n. is_persistent_key (map.get n.keys c.args.id.0) ≡ true)
-          (record { same = loaded.same; slots = loaded.slots; keeps = loaded.keeps }) s.holds
+          (record { same = loaded.same; slots = loaded.states; keeps = loaded.keeps }) s.holds
           (gone.takes m more all (taken.gives m all more s.holds.slots gains) gains) (is_persistent (map.get m.keys c.args.id.0) key.0 key.1 key.2);
       disk = λ e. loaded.disk (is ∙ ap Err (from_disk fault (why Disk e) (λ full. loaded.full (is ∙ ap Err full))));
       corrupt = λ e. is_false (is_some (g.D.Disk.contents c.load.new.self.cells.disk)) (λ tells.
@@ -129,7 +129,7 @@ returns-in-Err g c =
       later = loaded.later;
       wipes = load_ends before c.reserve-filling.new.self.table.slots c.give_up.new.self.table.slots slot taken.taken taken.wipes gone.wipes;
       emptied = load_empties before c.reserve-filling.new.self.table.slots c.give_up.new.self.table.slots slot taken.wipes gone.wipes gone.emptied;
-      directory = loaded.slots;
+      directory = loaded.states;
       keeps = loaded.keeps;
       devices = refl {a = old.devices};
       rules = refl {a = old.rules};
