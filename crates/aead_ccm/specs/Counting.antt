@@ -1,5 +1,5 @@
 -- The key stream of CCM by counter blocks as numbers.
-use Rattle.std.specs.Prelude.{ℕ, zero, suc, ◌+◌, List, [], ◌++◌, bit_xor}
+use Rattle.std.specs.Prelude.{ℕ, zero, suc, ◌+◌, [], ◌++◌, bit_xor, List}
 use Rattle.crypto_specs.specs.Prelude.{number_block}
 
 -- n blocks, from the counter block after `first` on: i is xored into the zeros that `first` ends in

@@ -1,5 +1,5 @@
 -- The key stream of a block cipher e over counter blocks.
-use Rattle.std.specs.Prelude.{ℕ, suc, ◌+◌, ◌/◌, ◌%◌, ◌^◌, List, [], ◌∷◌, bit_xor, slice_index}
+use Rattle.std.specs.Prelude.{ℕ, suc, ◌+◌, ◌/◌, ◌%◌, ◌^◌, [], ◌∷◌, bit_xor, slice_index, List}
 use Rattle.crypto_specs.specs.Prelude.{number_block, increased}
 use Rattle.aead_streams.specs.declared.counter_width.CounterWidth.{CounterWidth}
 use Rattle.aead_streams.specs.declared.counter_width.CounterWidth.TheVariants.{Whole, Low32}

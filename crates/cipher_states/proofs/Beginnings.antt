@@ -1,9 +1,8 @@
 -- A text that begins.
 use Rattle.std.proofs.Common.{Bool, List, [], false, inl, inr, length, not, subst, sym, true, ℕ, ◌&&◌, ◌==◌, ◌||◌, ◌∙◌, ◌≡◌}
-use Rattle.cipher_states.proofs.Common.{CipherWork, Ctr, EcbNoPadding, IsAt, Mode, RunningCipher, RunsBlocks, RunsMode, Whole, aes_encrypt, block_number, bytes_or_empty, chains, is_stream, iv_length, keeps_last, mode_of, way_of}
+use Rattle.cipher_states.proofs.Common.{aes_encrypt, block_number, bytes_or_empty, cases_Bool, chains, CipherWork, Ctr, EcbNoPadding, is_stream, IsAt, iv_length, keeps_last, Mode, mode_of, not-true, RunningCipher, RunsBlocks, RunsMode, way_of, Whole}
 use Rattle.cipher_states.proofs.RunningTexts.{by_stream, by_blocks}
 use Rattle.std.proofs.Math.Bool.{or-false}
-use Rattle.std.proofs.lemmas.Bool.{cases_Bool, not-true}
 
 -- from the initialisation vector, where the mode has one
 pub begun : (m : Mode) (s : RunningCipher) (w : CipherWork) (iv : List ℕ) → w.text ≡ [] → (is_stream m ≡ true → iv ≡ bytes_or_empty w.iv)

@@ -18,3 +18,5 @@ pub use Rattle.psa_status.specs.declared.Status.TheVariants.{BufferTooSmall, Inv
 pub use Rattle.service_calls.specs.Answers.{AnswersOrSpoils, GivesBytes}
 pub use Rattle.std.proofs.lemmas.List.{drop-append-le, drop_all, map-append, take-append-le}
 pub use Rattle.store_model.specs.Prelude.{Active, After, Bytes, CbcNoPadding, CbcPkcs7, CipherWork, Ctr, EcbNoPadding, InError, Inactive, Mode, Operation, Reply, buffer_after, buffer_bytes, bytes_or_empty, cipher_due, cipher_finish_rows, cipher_fresh, cipher_step, cipher_update_rows, cipher_work, deciphered, due_deciphered, due_enciphered, enciphered, ends, given, is_ciphertext_length, is_whole_text, iv_length, last_length, last_part, mode_of, plain_or_zeros, room_rows, spoiled, takes_text, takes_whole_blocks, total_limit, unless_failed, whole_text, with_iv, with_text}
+pub use Rattle.cipher_states.specs.declared.block_text.BlockText.{BlockText}
+pub use Rattle.std.proofs.lemmas.Bool.{and_parts, cases_Bool, cond-false, cond-true, eqb-false, eqb-true, le-ltb, lt-ltb, MatchBool-at_false, MatchBool-at_true, not-true}

@@ -1,7 +1,6 @@
 -- The output that is due, by the mode and the direction.
 use Rattle.std.proofs.Common.{Bool, List, ap, ap₂, cond, drop, false, inl, inr, length, refl, subst, sym, take, true, ℕ, ◌++◌, ◌∙◌, ◌≡◌, ◌≤◌}
-use Rattle.cipher_states.proofs.Common.{CbcNoPadding, Ctr, Mode, Way, Whole, aes_encrypt, block_number, bytes_or_empty, chains, cipher_due, ctr_xor, due_bytes, due_deciphered, due_enciphered, is_stream, keeps_last, length-text_xor, mode_of, next_chain, processed, take-append-le, text_xor, text_xor-append, way_of, with_text}
-use Rattle.std.proofs.lemmas.Bool.{cases_Bool}
+use Rattle.cipher_states.proofs.Common.{aes_encrypt, block_number, bytes_or_empty, cases_Bool, CbcNoPadding, chains, cipher_due, Ctr, ctr_xor, due_bytes, due_deciphered, due_enciphered, is_stream, keeps_last, length-text_xor, Mode, mode_of, next_chain, processed, take-append-le, text_xor, text_xor-append, Way, way_of, Whole, with_text}
 use Rattle.std.proofs.lemmas.List.{length-append, take_at, drop_at, take-append-drop, take-take}
 use Rattle.aead_streams.proofs.ModeStreams.{aes_keeps_length, ctr_is, ctr_further}
 use Rattle.multipart.specs.Dues.{DueGrows}

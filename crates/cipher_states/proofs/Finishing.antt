@@ -1,7 +1,6 @@
 -- What a finish gives, by the state.
 use Rattle.std.proofs.Common.{Bool, List, [], ap, ap₂, arith, drop, false, if◌then◌else◌, length, not, refl, replicate, sym, take, true, ℕ, ◌%◌, ◌&&◌, ◌++◌, ◌+◌, ◌-◌, ◌<◌, ◌==◌, ◌∙◌, ◌≡◌}
-use Rattle.cipher_states.proofs.Common.{Bytes, CbcDecrypt, CbcPkcs7, CipherWork, HoldsCipher, InError, Inactive, Mode, Operation, RunningCipher, Success, Way, bytes_or_empty, chains, drop_all, due_bytes, ends, given, is_stream, is_whole_text, keeps_last, last_length, last_part, mode_of, model_mode, next_chain, pkcs7_padded, pkcs7_unpadded, processed, takes_text, way_of, whole_text}
-use Rattle.std.proofs.lemmas.Bool.{and_parts, eqb-false, eqb-true, not-true}
+use Rattle.cipher_states.proofs.Common.{and_parts, Bytes, bytes_or_empty, CbcDecrypt, CbcPkcs7, chains, CipherWork, drop_all, due_bytes, ends, eqb-false, eqb-true, given, HoldsCipher, Inactive, InError, is_stream, is_whole_text, keeps_last, last_length, last_part, Mode, mode_of, model_mode, next_chain, not-true, Operation, pkcs7_padded, pkcs7_unpadded, processed, RunningCipher, Success, takes_text, Way, way_of, whole_text}
 use Rattle.std.proofs.lemmas.List.{length-drop, append-nil}
 use Rattle.multipart.specs.Phases.{LeadsTo}
 use Rattle.multipart.specs.declared.Phase.{Phase}

@@ -1,8 +1,7 @@
 -- What a finish gives.
 use Rattle.std.proofs.Common.{Bool, List, None, Option, Some, [], ap, append_assoc, ap₂, arith, cond, drop, false, is_some, length, not, refl, replicate, sym, take, true, ℕ, ◌%◌, ◌*◌, ◌++◌, ◌-◌, ◌/◌, ◌<◌, ◌==◌, ◌||◌, ◌∙◌, ◌≡◌}
-use Rattle.cipher_states.proofs.Common.{After, Bytes, CbcDecrypt, CbcEncrypt, CbcNoPadding, CbcPkcs7, CipherWork, Ctr, EcbNoPadding, InError, Inactive, InvalidPadding, Mode, Success, aes_decrypt, aes_encrypt, bytes_or_empty, cbc_decrypt, cbc_encrypt, deciphered, drop_all, due_bytes, ecb_decrypt, ecb_encrypt, enciphered, ends, given, is_ciphertext_length, last_length, last_part, mode_of, next_chain, pkcs7_padded, pkcs7_unpadded, plain_or_zeros, processed, spoiled, takes_whole_blocks, whole_text}
+use Rattle.cipher_states.proofs.Common.{aes_decrypt, aes_encrypt, After, Bytes, bytes_or_empty, cbc_decrypt, cbc_encrypt, CbcDecrypt, CbcEncrypt, CbcNoPadding, CbcPkcs7, CipherWork, Ctr, deciphered, drop_all, due_bytes, ecb_decrypt, ecb_encrypt, EcbNoPadding, enciphered, ends, eqb-true, given, Inactive, InError, InvalidPadding, is_ciphertext_length, last_length, last_part, Mode, mode_of, next_chain, pkcs7_padded, pkcs7_unpadded, plain_or_zeros, processed, spoiled, Success, takes_whole_blocks, whole_text}
 use Rattle.std.specs.Option.{option_map}
-use Rattle.std.proofs.lemmas.Bool.{eqb-true}
 use Rattle.std.proofs.lemmas.List.{length-append, take_all, drop_at, take-append-drop}
 use Rattle.cipher_states.proofs.WayLaws.{processed_parts, length-processed}
 use Rattle.cipher_states.proofs.TextPlaces.{whole_front}

@@ -1,9 +1,7 @@
 -- What a RunningCipher stands for.
 use Rattle.std.proofs.Common.{Bool, List, MatchBool, None, Some, ap, arith, drop, false, length, nat_lt, refl, subst, sym, take, true, ℕ, ◌%◌, ◌++◌, ◌+◌, ◌<◌, ◌∙◌, ◌≡◌, ◌≤◌}
-use Rattle.cipher_states.proofs.Common.{BufferTooSmall, CipherWork, HoldsCipher, IsAt, Mode, RunningCipher, RunsBlocks, Whole, aes_encrypt, block_number, bytes_or_empty, chains, cipher_fresh, cipher_update_rows, due_bytes, due_now, first_row, is_stream, keeps_last, length-text_xor, mode_of, model_mode, processed, room_rows, takes_text, text_xor, total_limit, way_of, with_text}
-use Rattle.std.proofs.lemmas.Bool.{MatchBool-at_false, MatchBool-at_true, cond-false, cond-true, lt-ltb, le-ltb}
+use Rattle.cipher_states.proofs.Common.{aes_encrypt, block_number, BlockText, BufferTooSmall, bytes_or_empty, chains, cipher_fresh, cipher_update_rows, CipherWork, cond-false, cond-true, due_bytes, due_now, first_row, HoldsCipher, is_stream, IsAt, keeps_last, le-ltb, length-text_xor, lt-ltb, MatchBool-at_false, MatchBool-at_true, Mode, mode_of, model_mode, processed, room_rows, RunningCipher, RunsBlocks, takes_text, text_xor, total_limit, way_of, Whole, with_text}
 use Rattle.aead_streams.specs.declared.key_stream.KeyStream.{KeyStream}
-use Rattle.cipher_states.specs.declared.block_text.BlockText.{BlockText}
 use Rattle.std.proofs.lemmas.List.{length-append, length-take, length-drop, take-append-drop}
 use Rattle.cipher_states.proofs.WayLaws.{length-processed, length-next_chain}
 use Rattle.cipher_states.proofs.TextPlaces.{due-whole, due-within, further_front}

@@ -1,8 +1,7 @@
 -- What a BlockText stands for, at its start and after a further piece.
 use Rattle.std.proofs.Common.{Bool, List, [], ap, append_assoc, ap₂, arith, drop, false, length, refl, sym, take, true, ℕ, ◌%◌, ◌++◌, ◌+◌, ◌∙◌, ◌≡◌, ◌≤◌}
-use Rattle.cipher_states.proofs.Common.{CbcDecrypt, CbcEncrypt, HoldsBlockText, Way, blocks, cbc_blocks, cbc_encrypt, chains, due_bytes, next_chain}
+use Rattle.cipher_states.proofs.Common.{blocks, BlockText, cbc_blocks, cbc_encrypt, CbcDecrypt, CbcEncrypt, chains, due_bytes, HoldsBlockText, next_chain, Way}
 use Rattle.std.proofs.lemmas.List.{length-append, length-take, take_at, drop_at, append-nil, take-append-drop, length-take-le}
-use Rattle.cipher_states.specs.declared.block_text.BlockText.{BlockText}
 use Rattle.cipher_states.proofs.WayLaws.{next_chain_parts}
 
 -- ---- how much is due

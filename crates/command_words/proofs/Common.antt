@@ -13,7 +13,7 @@ pub use Rattle.clap.specs.Words.{App, Text, app_of, built, first_value, found_of
 pub use Rattle.command_words.specs.Options.{Setting, Texts, all_options, are_single, is_equals, is_of, option_in, option_name, option_named, texts_of, value_of}
 unfoldable pub use Rattle.command_words.specs.Options.{options_in}
 pub use Rattle.command_words.specs.Parser.{asked_of, bare_command, generate_command, option_id, option_rule, program, run_command, texts_in}
-pub use Rattle.command_words.specs.Reading.{State, after_word, at_end, if_new, state, texts, with_option}
+pub use Rattle.command_words.specs.Reading.{after_word, at_end, if_new, settled_texts, State, state, texts, with_option}
 unfoldable pub use Rattle.command_words.specs.Reading.{after_words}
 pub use Rattle.command_words.specs.Values.{seed_in, value_or}
 unfoldable pub use Rattle.command_words.specs.Values.{number_to}
@@ -32,3 +32,6 @@ pub use Rattle.std.proofs.lemmas.Slice.Eq.{bytes_eq-Decides}
 pub use Rattle.std.proofs.lemmas.Str.Pattern.{split_once_first}
 pub use Rattle.std.specs.List.{after_first, before_first, list_all, list_any, onto_first, position_or_len, range_with_len, slice_split}
 pub use Rattle.std.specs.Option.{option_or}
+pub use Rattle.std.proofs.lemmas.Bool.{and_left, and_right, false_from_ne_true, not-false}
+pub use Rattle.std.specs.Fmt.{decimal}
+pub use Rattle.std.specs.Str.{IsUtf8}

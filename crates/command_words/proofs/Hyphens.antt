@@ -1,8 +1,6 @@
 -- Good values don't begin with a hyphen.
 use Rattle.std.proofs.Common.{Bool, Err, List, None, Option, Some, [], ap, arith, bytes_eq, cond, false, ne_eqb, get_or, option_and_then, refl, replicate, sym, true, ℕ, ◌<◌, ◌==◌, ◌^◌, ◌∙◌, ◌∷◌, ◌≡◌}
-use Rattle.command_words.proofs.Common.{Label, Rules, RunOption, RunOptions, Seed, Texts, Workers, bytes_eq-Decides, first_decimal, label_named, label_word, labels_in, labels_named, long_of, long_of_rest, none-some, number_to, onto_first, option_and_then_some, run_options, seed_in, short_of, short_of_rest, slice_split, strip_byte, value_or}
-use Rattle.std.specs.Fmt.{decimal}
-use Rattle.std.proofs.lemmas.Bool.{false_from_ne_true}
+use Rattle.command_words.proofs.Common.{bytes_eq-Decides, decimal, false_from_ne_true, first_decimal, Label, label_named, label_word, labels_in, labels_named, long_of, long_of_rest, none-some, number_to, onto_first, option_and_then_some, Rules, run_options, RunOption, RunOptions, Seed, seed_in, short_of, short_of_rest, slice_split, strip_byte, Texts, value_or, Workers}
 use Rattle.std.specs.Result.{result_ok}
 use Rattle.hex.specs.Hex.{decode_pairs}
 use Rattle.hex.specs.declared.error.FromHexError.TheVariants.{OddLength, InvalidStringLength}

@@ -1,10 +1,8 @@
 -- The number whose decimal text is given.
 use Rattle.std.proofs.Common.{Bool, Err, List, None, Ok, Result, Some, ap, arith, bytes_eq, false, find, inl, inr, not, refl, subst, suc, sym, true, zero, ℕ, ◌+◌, ◌<◌, ◌^◌, ◌∙◌, ◌≡◌, ◌≤◌, ◌⊎◌}
-use Rattle.command_words.proofs.Common.{bytes_eq-Decides, decimal_injective, number_to, parse-decimal, range_with_len}
-use Rattle.std.specs.Fmt.{decimal}
+use Rattle.command_words.proofs.Common.{bytes_eq-Decides, decimal, decimal_injective, false_from_ne_true, not-false, number_to, parse-decimal, range_with_len}
 use Rattle.std.specs.Str.Parse.{ParsesUnsigned}
 use Rattle.std.proofs.Math.Nat.{eq-or-lt_of_le}
-use Rattle.std.proofs.lemmas.Bool.{false_from_ne_true, not-false}
 
 find_none : (p : ℕ → Bool) (a n : ℕ) → ((m : ℕ) → a ≤ m → m < a + n → p m ≡ false) → find p (range_with_len a n) ≡ None
 find_none p a zero h = refl

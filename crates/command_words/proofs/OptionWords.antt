@@ -1,8 +1,7 @@
 -- What is an option's word to the grammar is one to `clap`.
 
 use Rattle.std.proofs.Common.{Bool, List, None, Option, Some, [], ap, arith, bytes_eq, cond, drop, false, find, option_map, refl, subst, suc, sym, take, true, ℕ, ◌+◌, ◌∙◌, ◌∷◌, ◌≡◌}
-use Rattle.std.proofs.lemmas.Bool.{false_from_ne_true}
-use Rattle.command_words.proofs.Common.{Rules, RunOption, Seed, Workers, after_first, all_options, before_first, bytes_eq-Decides, is_equals, list_any, long_of, long_of_rest, none-some, option_id, option_in, option_name, option_named, position_or_len, same_Some}
+use Rattle.command_words.proofs.Common.{after_first, all_options, before_first, bytes_eq-Decides, false_from_ne_true, is_equals, list_any, long_of, long_of_rest, none-some, option_id, option_in, option_name, option_named, position_or_len, Rules, RunOption, same_Some, Seed, Workers}
 
 found_passes : {X : Type 0} (p : X → Bool) (xs : List X) (x : X) → find p xs ≡ Some x → p x ≡ true
 found_passes p [] x e = absurd (none-some x e)

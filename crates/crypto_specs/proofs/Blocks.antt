@@ -1,7 +1,6 @@
 -- Laws of blocks that the proofs of the algorithms share.
 use Rattle.std.proofs.Common.{List, [], ap, ap₂, arith, drop, length, refl, replicate, slice_index, suc, take, zero, ℕ, ◌*◌, ◌++◌, ◌∙◌, ◌∷◌, ◌≡◌, ◌≤◌}
-use Rattle.crypto_specs.proofs.Common.{aes_encrypt, block_number, blocks, drop-append-le, joined, number_block, take-append-le}
-use Rattle.std.proofs.lemmas.List.{take-append-drop, length-drop}
+use Rattle.crypto_specs.proofs.Common.{aes_encrypt, block_number, blocks, drop-append-le, joined, length-drop, number_block, take-append-drop, take-append-le}
 
 pub length-number_block : (n : ℕ) → length (number_block n) ≡ 16
 unfolding number_block

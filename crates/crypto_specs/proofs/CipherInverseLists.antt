@@ -1,9 +1,6 @@
 -- Lists of bytes, as what each place reads as.
 use Rattle.std.proofs.Common.{List, [], arith, drop, inl, inr, length, nat_lt, slice_index, suc, take, true, zero, ℕ, ◌++◌, ◌+◌, ◌<◌, ◌∷◌, ◌≡◌}
-use Rattle.std.specs.List.{list_all}
-use Rattle.std.proofs.lemmas.Bool.{and_parts, ltb-true}
-use Rattle.crypto_specs.proofs.Common.{AreBytes, cases_lt, get_or_default, get_or_past, xor_bytes, xor_lt}
-use Rattle.std.proofs.lemmas.List.{get_or-take, get_or-drop, length-take}
+use Rattle.crypto_specs.proofs.Common.{and_parts, AreBytes, cases_lt, get_or-drop, get_or-take, get_or_default, get_or_past, length-take, list_all, ltb-true, xor_bytes, xor_lt}
 
 -- every byte that a list reads as is below 256, also past its end
 pub record HasBytes (s : List ℕ) : Type 0 where

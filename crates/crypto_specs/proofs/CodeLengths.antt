@@ -1,8 +1,6 @@
 -- The blocks of HKDF and PBKDF2 are as long as a digest.
 use Rattle.std.proofs.Common.{List, [], arith, length, suc, zero, ℕ, ◌++◌, ◌+◌, ◌∷◌, ◌≡◌, ◌≤◌}
-use Rattle.crypto_specs.proofs.Common.{chain, expand_block, hmac, pbkdf2_block, to_be_bytes, xor_all, xor_bytes}
-use Rattle.std.specs.List.{fold}
-use Rattle.std.specs.Int.{w32}
+use Rattle.crypto_specs.proofs.Common.{chain, expand_block, fold, hmac, pbkdf2_block, to_be_bytes, w32, xor_all, xor_bytes}
 use Rattle.crypto_specs.proofs.XorBytes.{length-xor_bytes}
 
 -- over any hash function of h bytes, with blocks of n

@@ -25,9 +25,10 @@ unfoldable pub use Rattle.crypto_specs.specs.Pbkdf2.{chain, pbkdf2, pbkdf2_block
 pub use Rattle.crypto_specs.specs.Sbox.{affine_bit, inv_affine_bit}
 unfoldable pub use Rattle.crypto_specs.specs.Sbox.{affine_bits, inv_affine_bits, inv_sbox, sbox}
 unfoldable pub use Rattle.sha2.specs.Sha256.{sha256}
-pub use Rattle.std.proofs.lemmas.Bool.{and_from, cases_eq, cases_lt}
-pub use Rattle.std.proofs.lemmas.List.{drop-append-le, drop_all, drop_min, get_or-append_right, get_or-replicate, get_or_append_left, get_or_default, get_or_past, length-replicate, length_push, replicate-append-replicate, take-append-le, take_min}
+pub use Rattle.std.proofs.lemmas.Bool.{and_from, and_parts, cases_eq, cases_lt, eqb-true, le-leb, le-ltb, leb-true, lt-ltb, ltb-true}
+pub use Rattle.std.proofs.lemmas.List.{append-nil, drop-append-le, drop-drop, drop_all, drop_at, drop_min, get_or-append_right, get_or-drop, get_or-replicate, get_or-take, get_or_append_left, get_or_default, get_or_past, length-append, length-drop, length-replicate, length-take, length_push, replicate-append-replicate, take-append-drop, take-append-le, take_all, take_at, take_min}
 pub use Rattle.std.proofs.lemmas.Nat.{xor_comm, xor_lt, xor_mod, xor_shr}
 pub use Rattle.std.proofs.lemmas.Slice.Eq.{bytes_eq-Decides, slice_eq-Decides}
-pub use Rattle.std.specs.Int.{bit_at, to_be_bytes}
+pub use Rattle.std.specs.Int.{bit_at, to_be_bytes, w32, w64}
 pub use Rattle.std.specs.Int.Bits.{xor_assoc, xor_block, xor_self, xor_zero_r}
+pub use Rattle.std.specs.List.{fold, list_all}

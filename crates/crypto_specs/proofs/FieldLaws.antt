@@ -1,7 +1,6 @@
 -- Laws of the field GF(2^8): what is tried at every byte, and products of sums.
 use Rattle.std.proofs.Common.{Bool, ap, ap₂, arith, bit_xor, cond, eqb, false, inl, inr, nat_lt, refl, suc, sym, true, zero, ℕ, ◌%◌, ◌&&◌, ◌*◌, ◌+◌, ◌/◌, ◌<◌, ◌^◌, ◌∙◌, ◌≡◌, ◌⊎◌}
-use Rattle.crypto_specs.proofs.Common.{cases_eq, cases_lt, gf_mul, xor_mod, sum_of_shifts, xor_assoc, xor_block, xor_comm, xor_lt, xor_self, xor_shr, xor_zero_r, xtime}
-use Rattle.std.proofs.lemmas.Bool.{and_parts, eqb-true, ltb-true, le-ltb, lt-ltb}
+use Rattle.crypto_specs.proofs.Common.{and_parts, cases_eq, cases_lt, eqb-true, gf_mul, le-ltb, lt-ltb, ltb-true, sum_of_shifts, xor_assoc, xor_block, xor_comm, xor_lt, xor_mod, xor_self, xor_shr, xor_zero_r, xtime}
 
 -- the test holds at each number below n
 unfoldable pub all_below : ℕ → (ℕ → Bool) → Bool

@@ -1,7 +1,6 @@
 -- HKDF: the absent salt.
 use Rattle.std.proofs.Common.{Bool, List, [], ap, arith, cond, length, replicate, sym, ℕ, ◌++◌, ◌-◌, ◌∙◌, ◌≡◌, ◌≤◌}
-use Rattle.crypto_specs.proofs.Common.{AbsentSaltIsEmptyKey, extract, zero_padded, hash_length, hmac, key_block, length-replicate, replicate-append-replicate, xored_with}
-use Rattle.std.proofs.lemmas.Bool.{le-ltb}
+use Rattle.crypto_specs.proofs.Common.{AbsentSaltIsEmptyKey, extract, hash_length, hmac, key_block, le-ltb, length-replicate, replicate-append-replicate, xored_with, zero_padded}
 
 -- a key of zeros that isn't longer than a block is the block of zeros
 zeros-key_block : (hash : List ℕ → List ℕ) (n k : ℕ) → k ≤ n → key_block hash n (replicate k 0) ≡ replicate n 0

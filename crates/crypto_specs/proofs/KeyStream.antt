@@ -1,7 +1,6 @@
 -- The key stream byte by byte.
 use Rattle.std.proofs.Common.{List, [], ap, ap₂, arith, bit_xor, inl, inr, length, refl, slice_index, suc, zero, ℕ, ◌%◌, ◌*◌, ◌++◌, ◌+◌, ◌-◌, ◌/◌, ◌<◌, ◌∙◌, ◌∷◌, ◌≡◌, ◌≤◌}
-use Rattle.crypto_specs.proofs.Common.{block_count, cases_lt, counter_block, ctr_xor, get_or-append_right, get_or_append_left, key_stream, stream_byte, xor_bytes, xor_stream}
-use Rattle.std.proofs.lemmas.List.{length-append}
+use Rattle.crypto_specs.proofs.Common.{block_count, cases_lt, counter_block, ctr_xor, get_or-append_right, get_or_append_left, key_stream, length-append, stream_byte, xor_bytes, xor_stream}
 
 -- any cutting: the second part goes on where the first ended
 pub xor_stream_of_parts : (e : List ℕ → List ℕ) (iv xs ys : List ℕ) (j : ℕ) → xor_stream e iv j (xs ++ ys) ≡ xor_stream e iv j xs ++ xor_stream e iv (j + length xs) ys

@@ -1,8 +1,6 @@
 -- ECB and CBC: decryption undoes encryption. CTR and the texts of CCM and GCM: xoring twice.
 use Rattle.std.proofs.Common.{List, [], ap, ap₂, arith, drop, length, map, refl, suc, sym, zero, ℕ, ◌%◌, ◌*◌, ◌++◌, ◌+◌, ◌-◌, ◌/◌, ◌<◌, ◌∙◌, ◌∷◌, ◌≡◌, ◌≤◌}
-use Rattle.crypto_specs.proofs.Common.{AnyCuttingIsTheSame, AreBytes, CbcDecryptionUndoesEncryption, CcmTextUndoesItself, CtrUndoesItself, EcbDecryptionUndoesEncryption, GcmTextUndoesItself, IsBlock, IsUndoneBy, KeepsLength, block_count, blocks, cbc_blocks, cbc_decrypt, cbc_encrypt, cbc_plain_blocks, ccm_counter_block, ccm_stream, ccm_text, counter_block, ctr_pieces, ctr_xor, ecb_decrypt, ecb_encrypt, gcm_stream, gcm_text, increased, initial_counter_block, joined, key_stream, number_block, to_be_bytes, xor_bytes, xor_stream}
-use Rattle.std.specs.Int.{w64}
-use Rattle.std.proofs.lemmas.List.{length-take, length-drop, length-append, take_at, drop_at}
+use Rattle.crypto_specs.proofs.Common.{AnyCuttingIsTheSame, AreBytes, block_count, blocks, cbc_blocks, cbc_decrypt, cbc_encrypt, cbc_plain_blocks, CbcDecryptionUndoesEncryption, ccm_counter_block, ccm_stream, ccm_text, CcmTextUndoesItself, counter_block, ctr_pieces, ctr_xor, CtrUndoesItself, drop_at, ecb_decrypt, ecb_encrypt, EcbDecryptionUndoesEncryption, gcm_stream, gcm_text, GcmTextUndoesItself, increased, initial_counter_block, IsBlock, IsUndoneBy, joined, KeepsLength, key_stream, length-append, length-drop, length-take, number_block, take_at, to_be_bytes, w64, xor_bytes, xor_stream}
 use Rattle.std.proofs.lemmas.List.Elements.{All-take, All-drop}
 use Rattle.crypto_specs.proofs.CipherInverseLists.{bytes_of_all, all_of_bytes, xored_bytes}
 use Rattle.crypto_specs.proofs.Blocks.{length-number_block, blocks_joined}

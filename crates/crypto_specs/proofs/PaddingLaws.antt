@@ -1,8 +1,6 @@
 -- PKCS#7: unpadding undoes padding, and only that.
 use Rattle.std.proofs.Common.{Bool, List, None, Option, Some, ap, ap₂, arith, bytes_eq, cond, drop, false, length, nat_le, refl, replicate, slice_index, sym, take, true, ℕ, ◌%◌, ◌&&◌, ◌++◌, ◌+◌, ◌-◌, ◌∙◌, ◌≡◌, ◌≤◌}
-use Rattle.crypto_specs.proofs.Common.{OnlyPaddedTextsUnpad, PaddingFillsBlocks, UnpaddingUndoesPadding, and_from, bytes_eq-Decides, get_or-append_right, get_or-replicate, length-replicate, pkcs7_padded, pkcs7_unpadded}
-use Rattle.std.proofs.lemmas.Bool.{and_parts, le-leb, leb-true}
-use Rattle.std.proofs.lemmas.List.{length-append, length-drop, take_at, drop_at, take-append-drop}
+use Rattle.crypto_specs.proofs.Common.{and_from, and_parts, bytes_eq-Decides, drop_at, get_or-append_right, get_or-replicate, le-leb, leb-true, length-append, length-drop, length-replicate, OnlyPaddedTextsUnpad, PaddingFillsBlocks, pkcs7_padded, pkcs7_unpadded, take-append-drop, take_at, UnpaddingUndoesPadding}
 
 -- the text from place n on is p bytes of value p, where p is 1 to 16
 abbrev is_padding : List ℕ → ℕ → ℕ → Bool

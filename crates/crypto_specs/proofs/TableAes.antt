@@ -1,8 +1,7 @@
 -- AES with its S-box read from a table, so that the examples of the modes compute fast. It is the
 -- same function.
 use Rattle.std.proofs.Common.{List, [], ap, cond, eqb, false, inl, inr, length, nat_lt, refl, slice_index, suc, sym, true, zero, ℕ, ◌%◌, ◌&&◌, ◌*◌, ◌++◌, ◌+◌, ◌-◌, ◌/◌, ◌∙◌, ◌∷◌, ◌≡◌}
-use Rattle.crypto_specs.proofs.Common.{add_round_key, aes_encrypt, affine_bits, cases_lt, entry, expanded, inverse_from, key_schedule, key_words, mix_columns, rot_word, round_constant, round_count, rounds, sbox, shift_rows, state_of, sum_of_shifts, word_at, xor_words}
-use Rattle.std.proofs.lemmas.Bool.{lt-ltb, le-ltb}
+use Rattle.crypto_specs.proofs.Common.{add_round_key, aes_encrypt, affine_bits, cases_lt, entry, expanded, inverse_from, key_schedule, key_words, le-ltb, lt-ltb, mix_columns, rot_word, round_constant, round_count, rounds, sbox, shift_rows, state_of, sum_of_shifts, word_at, xor_words}
 use Rattle.crypto_specs.proofs.Tables.{holds_values, value_of}
 
 abbrev sbox_table : List ℕ

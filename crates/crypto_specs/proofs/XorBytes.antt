@@ -1,8 +1,7 @@
 -- Laws of xor_bytes.
 use Rattle.std.proofs.Common.{List, [], ap, append_assoc, ap₂, arith, bit_xor, drop, length, min, refl, slice_index, slice_set, suc, sym, take, zero, ℕ, ◌*◌, ◌++◌, ◌+◌, ◌-◌, ◌<◌, ◌∙◌, ◌∷◌, ◌≡◌, ◌≤◌}
-use Rattle.crypto_specs.proofs.Common.{drop_all, drop_min, take_min, xor_assoc, xor_bytes, xor_self, xor_zero_r}
+use Rattle.crypto_specs.proofs.Common.{append-nil, drop-drop, drop_all, drop_at, drop_min, length-drop, length-take, take_all, take_at, take_min, xor_assoc, xor_bytes, xor_self, xor_zero_r}
 use Rattle.std.proofs.Math.Seq.{take-add}
-use Rattle.std.proofs.lemmas.List.{take_at, drop_at, drop-drop, take_all, append-nil, length-take, length-drop}
 use borrow.Rule.Slice.PartMut.{put_mid}
 
 -- one more byte xored in place

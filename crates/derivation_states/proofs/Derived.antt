@@ -1,9 +1,7 @@
 -- The bytes of a derivation, block by block.
 use Rattle.std.proofs.Common.{List, [], add-one, ap, ap₂, arith, drop, get_or, inl, inr, length, refl, suc, sym, take, zero, ℕ, ◌*◌, ◌++◌, ◌+◌, ◌-◌, ◌/◌, ◌<◌, ◌∙◌, ◌∷◌, ◌≡◌, ◌≤◌}
-use Rattle.derivation_states.proofs.Common.{DerivationWork, block_at, bytes_or_empty, cases_Bool, cond-false, cond-true, derived, drop-append-le, expand, expand_blocks, hash_length, is_hkdf, next_derived, number_or_zero, pbkdf2, pbkdf2_blocks, without, work_block_length, work_hash}
-use Rattle.std.proofs.Math.Nat.{mul-suc, div-mul-le_self}
+use Rattle.derivation_states.proofs.Common.{block_at, bytes_or_empty, cases_Bool, cond-false, cond-true, DerivationWork, derived, div-mul-le_self, drop-append-le, expand, expand_blocks, hash_length, is_hkdf, length-drop, length-take, mul-suc, next_derived, number_or_zero, pbkdf2, pbkdf2_blocks, take-append-drop, without, work_block_length, work_hash}
 use Rattle.std.proofs.lemmas.Nat.{le-div}
-use Rattle.std.proofs.lemmas.List.{length-take, length-drop, take-append-drop}
 use Rattle.multipart.specs.Dues.{DueGrows}
 use Rattle.derivation_states.proofs.Joined.{joined, joined_is, front_begins, length-joined, front, one_byte}
 use Rattle.derivation_states.proofs.Blocks.{HasBlocks, block_of_hkdf, block_of_pbkdf2, by_hkdf, by_pbkdf2, length-block_at, prk_of}

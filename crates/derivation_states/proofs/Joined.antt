@@ -1,9 +1,7 @@
 -- Blocks joined, of one length and of any.
 use Rattle.std.proofs.Common.{List, [], ap, append_assoc, ap₂, arith, drop, get_or, length, min, suc, sym, take, zero, ℕ, ◌*◌, ◌++◌, ◌+◌, ◌<◌, ◌∙◌, ◌∷◌, ◌≡◌, ◌≤◌}
-use Rattle.derivation_states.proofs.Common.{drop-take, take-append-le, take_min}
-use Rattle.std.proofs.Math.Nat.{mul-suc}
+use Rattle.derivation_states.proofs.Common.{append-nil, drop-take, length-append, length-take, mul-suc, take-append-le, take-take, take_min}
 use Rattle.std.proofs.Math.Seq.{drop-append-add, drop-cons}
-use Rattle.std.proofs.lemmas.List.{append-nil, length-append, length-take, take-take}
 
 -- the blocks 1 to m
 abbrev pub joined : (ℕ → List ℕ) → ℕ → List ℕ

@@ -1,13 +1,9 @@
 -- The current block's next byte.
 use Rattle.std.proofs.Common.{List, None, Option, Some, [], ap, ap₂, arith, get_or, is_some, length, refl, slice_index_or, suc, sym, take, true, zero, ℕ, ◌*◌, ◌++◌, ◌+◌, ◌-◌, ◌<◌, ◌∙◌, ◌∷◌, ◌≡◌, ◌≤◌}
-use Rattle.derivation_states.proofs.Common.{DerivationWork, HoldsInputs, Inputs, HasSecret, IsRunning, KeyDerivation, NamesDerivation, block_at, digest_length, next_derived, number_or_zero, without}
-use Rattle.std.specs.Option.{ForSome}
-use Rattle.std.proofs.Math.Nat.{mul-suc}
-use Rattle.std.proofs.lemmas.List.{get_or-take, nil_from_length}
+use Rattle.derivation_states.proofs.Common.{block_at, DerivationWork, digest_length, ForSome, get_or-take, HasSecret, HoldsInputs, Inputs, IsRunning, KeyDerivation, mul-suc, NamesDerivation, next_derived, nil_from_length, number_or_zero, OutputState, without}
 use Rattle.hash_ops.specs.declared.Hash.{Hash}
 use Rattle.hash_ops.specs.declared.Hash.TheVariants.{Sha224}
 use Rattle.hash_ops.proofs.Digests.{length-hash_of}
-use Rattle.derivation_states.specs.declared.output.OutputState.{OutputState}
 use Rattle.derivation_states.proofs.Blocks.{HasBlocks}
 use Rattle.derivation_states.proofs.Derived.{next_byte, next_derived_add, length-next_derived}
 

@@ -2,8 +2,7 @@
 ghost use Rattle.std.specs.Prelude.{◌≡◌, ◌≤◌, ℕ, Bool, List, true, length};
 ghost use Rattle.store_model.specs.Prelude.{buffer_after, refusal, Operation, After};
 ghost use Rattle.service_calls.specs.Answered.{AnswersReply};
-ghost use Rattle.multipart.specs.Turns.{by_key};
-ghost use Rattle.multipart.specs.Turns.{loses_key, on_active};
+ghost use Rattle.multipart.specs.Turns.{by_key, loses_key, on_active};
 
 use psa_status::Status;
 use service_calls::Output;

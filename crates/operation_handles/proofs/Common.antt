@@ -30,4 +30,5 @@ pub use Rattle.service_calls.specs.Meanings.{model_aead_step, model_cipher_step,
 pub use Rattle.service_calls.specs.declared.handle_calls.Purpose.{Purpose}
 pub use Rattle.slot_table.specs.Lent.{Reading}
 pub use Rattle.store_model.specs.DerivationOperations.{stated_bytes}
-pub use Rattle.store_model.specs.Prelude.{Active, AeadWork, After, Bytes, CipherWork, DerivationStep, DerivationWork, Deriving, GetCapacity, HandleOperation, HashWork, Hashing, Held, InError, Inactive, InputBytes, InputInteger, Key, KeyCreation, MacWork, Nothing, Operation, OutputBytes, Own, Reply, Served, Service, SetCapacity, VerifyBytes, Work, aead_step, aead_work, applied, buffer_after, bytes_or_empty, cipher_step, cipher_work, class_rows, compared, counted, creation_of, derivation_key_rows, derivation_part, derivation_step, derivation_work, done, exhausted, fails, given, goes_on, handle_step, hash_step, hash_work, held_after, held_with, info_step, input_bytes_rows, input_integer_rows, input_key, input_key_rows, is_alive, is_inactive, is_of_class, key_of_operation, key_step, key_step_rows, mac_step, mac_work, next_derived, operation_of, output_key, output_key_rows, output_rows, own_of, part_of, recorded_of, refusal, salt_step, set_up, stays, stepped, taken_from, underived, unless_failed, untouched, with_bytes, with_key, with_live_key, with_own, without}
+pub use Rattle.store_model.specs.Prelude.{Active, aead_step, aead_work, AeadWork, After, applied, buffer_after, Bytes, bytes_of_key, bytes_or_empty, cipher_step, cipher_work, CipherWork, class_rows, compared, counted, creation_of, derivation_key_rows, derivation_part, derivation_step, derivation_work, DerivationStep, DerivationWork, Deriving, done, exhausted, fails, GetCapacity, given, goes_on, handle_step, HandleOperation, hash_step, hash_work, Hashing, HashWork, Held, held_after, held_with, Inactive, InError, info_step, input_bytes_rows, input_integer_rows, input_key, input_key_rows, InputBytes, InputInteger, is_alive, is_inactive, is_of_class, Key, key_of_operation, key_step, key_step_rows, KeyCreation, mac_step, mac_work, MacWork, next_derived, Nothing, Operation, operation_of, output_key, output_key_rows, output_rows, OutputBytes, Own, own_of, part_of, recorded_of, refusal, Reply, salt_step, Served, Service, set_up, SetCapacity, stays, stepped, taken_from, underived, unless_failed, untouched, VerifyBytes, with_bytes, with_key, with_live_key, with_own, without, Work}
+pub use Rattle.std.specs.Option.{option_map}

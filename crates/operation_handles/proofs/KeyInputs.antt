@@ -1,7 +1,6 @@
 -- A key as the secret of a handle's derivation.
 use Rattle.std.proofs.Common.{Bool, None, Option, Some, [], ap, false, is_some, not, refl, subst, sym, true, ℕ, ◌&&◌, ◌==◌, ◌∙◌, ◌∷◌, ◌≡◌}
-use Rattle.operation_handles.proofs.Common.{Active, After, AreStates, BadState, OperationHandle, DerivationState, DerivationWork, Derivations, Deriving, FamilyStates, HandleOperation, InError, Inactive, InvalidArgument, IsConcrete, IsDerivationOperation, IsOperation, KeyCreation, MayHave, Operation, Reading, RefusesKeyAt, Status, TakesKeyAt, by_key, bytes_of, derivation_part, done, first_row, goes_on, key_given, key_step, key_step_refusal, key_step_rows, on_active, part_of, unless_failed, with_key}
-use Rattle.std.specs.Option.{option_map}
+use Rattle.operation_handles.proofs.Common.{Active, After, AreStates, BadState, by_key, bytes_of, derivation_part, Derivations, DerivationState, DerivationWork, Deriving, done, FamilyStates, first_row, goes_on, HandleOperation, Inactive, InError, InvalidArgument, IsConcrete, IsDerivationOperation, IsOperation, key_given, key_step, key_step_refusal, key_step_rows, KeyCreation, MayHave, on_active, Operation, OperationHandle, option_map, part_of, Reading, RefusesKeyAt, Status, TakesKeyAt, unless_failed, with_key}
 use Rattle.key_policy.specs.declared.key_use.KeyUse.TheVariants.{Derivation}
 use Rattle.operation_handles.proofs.Deriving.{goes_with, key_stays, unless_goes}
 use Rattle.operation_handles.proofs.Families.{keeps_all, keeps_put}

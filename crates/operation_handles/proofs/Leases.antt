@@ -1,7 +1,6 @@
 -- What a handle stands for, with a lease and without.
 use Rattle.std.proofs.Common.{None, Option, Some, ap, false, subst, sym, ◌∙◌, ◌≡◌}
-use Rattle.operation_handles.proofs.Common.{Alg, AreInactive, AreStates, OperationHandle, HandleOperation, Inactive, IsOperation, KeyCreation, Purpose, Reading, begun_with, bytes_of, is_active, set_up_without_key}
-use Rattle.std.specs.Option.{option_map}
+use Rattle.operation_handles.proofs.Common.{Alg, AreInactive, AreStates, begun_with, bytes_of, HandleOperation, Inactive, is_active, IsOperation, KeyCreation, OperationHandle, option_map, Purpose, Reading, set_up_without_key}
 use Rattle.service_calls.specs.declared.handle_calls.KeylessSetup.{KeylessSetup}
 use Rattle.operation_handles.proofs.Fresh.{all_are, all_inactive, over}
 

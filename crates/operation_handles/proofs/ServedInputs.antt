@@ -1,10 +1,9 @@
 -- A key as the secret of a handle's derivation, as the service serves it.
 use Rattle.std.proofs.Common.{Bool, None, Option, Some, ap, cond, false, refl, sym, true, ℕ, ◌∙◌, ◌≡◌}
-use Rattle.operation_handles.proofs.Common.{Active, BadState, DerivationWork, Deriving, HandleOperation, InError, Inactive, Key, KeyCreation, KeyInputsAreTheModels, Operation, Served, Service, Status, TakesKeyAt, applied, creation_of, derivation_key_rows, derivation_part, done, fails, first_row, first_row-back, first_row-front, goes_on, has_live_key, held_after, input_key, input_key_rows, is_alive, is_concrete, key_of_operation, key_step_rows, on_part, operation_of, part_of, unless_failed, use_refusal, with_key, with_live_key}
+use Rattle.operation_handles.proofs.Common.{Active, applied, BadState, bytes_of_key, creation_of, derivation_key_rows, derivation_part, DerivationWork, Deriving, done, fails, first_row, first_row-back, first_row-front, goes_on, HandleOperation, has_live_key, held_after, Inactive, InError, input_key, input_key_rows, is_alive, is_concrete, Key, key_of_operation, key_step_rows, KeyCreation, KeyInputsAreTheModels, on_part, Operation, operation_of, part_of, Served, Service, Status, TakesKeyAt, unless_failed, use_refusal, with_key, with_live_key}
 use Rattle.std.specs.FinMap as map
 use Rattle.key_policy.specs.declared.key_use.KeyUse.{KeyUse}
 use Rattle.key_policy.specs.Permissions.{pattern_refusal}
-use Rattle.store_model.specs.Prelude.{bytes_of_key}
 use Rattle.operation_handles.proofs.Served.{untouched_is}
 use Rattle.operation_handles.proofs.Steps.{same_work}
 

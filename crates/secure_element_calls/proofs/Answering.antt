@@ -1,7 +1,6 @@
 -- What the model replies to a call, and what its answer is.
 use Rattle.std.proofs.Common.{Bool, Err, List, MatchOption, None, Ok, Option, Result, Some, [], ap, ap₂, arith, cond, drop, false, if◌then◌else◌, length, not, refl, replicate, subst, sym, true, ℕ, ◌++◌, ◌-◌, ◌∙◌, ◌≡◌}
-use Rattle.secure_element_calls.proofs.Common.{Bytes, Compares, Computed, CtrDecrypt, CtrEncrypt, ElementCall, HardwareFailure, HeldKey, HeldKeys, HoldsHandle, InvalidArgument, InvalidSignature, MacCompute, MacVerify, Reply, Status, Success, agrees_by, buffer_after, computed_unless, done, element_reply, first_row, given, given_by, length-replicate, needed_by, refusal, reply_unless, rows_before, spoiled, unless, unless-ok}
-use Rattle.std.proofs.lemmas.List.{append-nil, drop_at, nil_from_length}
+use Rattle.secure_element_calls.proofs.Common.{agrees_by, append-nil, buffer_after, Bytes, Compares, Computed, computed_unless, CtrDecrypt, CtrEncrypt, done, drop_at, element_reply, ElementCall, first_row, given, given_by, HardwareFailure, HeldKey, HeldKeys, HoldsHandle, InvalidArgument, InvalidSignature, length-replicate, MacCompute, MacVerify, needed_by, nil_from_length, refusal, Reply, reply_unless, rows_before, spoiled, Status, Success, unless, unless-ok}
 use Rattle.secure_element_calls.specs.declared.calls.NotComputed.{NotComputed}
 use Rattle.secure_element_calls.specs.declared.calls.NotComputed.TheVariants.{Refused, Failed}
 use Rattle.secure_element_calls.specs.Answers.{AnswersCall, IsComputed, IsOfElement, reply_to}

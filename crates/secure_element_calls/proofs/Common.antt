@@ -16,5 +16,6 @@ pub use Rattle.secure_element_calls.specs.Calls.{algorithm_asked, ctr, element_r
 pub use Rattle.secure_element_calls.specs.Given.{Compares, agrees_by, given_by}
 pub use Rattle.secure_element_calls.specs.declared.calls.ElementCall.{ElementCall}
 pub use Rattle.secure_element_calls.specs.declared.calls.ElementCall.TheVariants.{CtrDecrypt, CtrEncrypt, MacCompute, MacVerify}
-pub use Rattle.std.proofs.lemmas.List.{drop-append-le, drop_all, drop_min, length-replicate, map-append, take-append-le, take_min}
+pub use Rattle.std.proofs.lemmas.List.{append-nil, drop-append-le, drop_all, drop_at, drop_min, length-append, length-drop, length-replicate, length-take, map-append, nil_from_length, take-append-le, take_all, take_min}
 pub use Rattle.store_model.specs.Prelude.{Bytes, Computed, Ctr, Key, OnStore, Reply, Service, buffer_after, bytes_of_key, computed_unless, computed_with, deciphered, done, enciphered, encrypted, fits_type, given, is_hmac, is_of_computed, is_opaque_key, mac_of, next_random, plain_or_zeros, plain_step, refusal, replies, reply_unless, spoiled, tag_bytes, total_limit}
+pub use Rattle.std.proofs.lemmas.Bool.{cases_eq, eqb-true}

@@ -1,7 +1,6 @@
 -- Counter blocks that are enciphered each by itself.
 use Rattle.std.proofs.Common.{List, [], ap, ap₂, arith, drop, length, map, suc, sym, take, zero, ℕ, ◌%◌, ◌*◌, ◌++◌, ◌+◌, ◌/◌, ◌<◌, ◌^◌, ◌∙◌, ◌∷◌, ◌≡◌}
-use Rattle.secure_element_calls.proofs.Common.{blocks, counter_block, counter_block_is, drop-append-le, ecb_encrypt, joined, key_stream, key_stream_next, length-number_block, map-append, number_block, number_of_block, take-append-le}
-use Rattle.std.proofs.lemmas.List.{append-nil, length-append, length-drop, nil_from_length, take_all}
+use Rattle.secure_element_calls.proofs.Common.{append-nil, blocks, counter_block, counter_block_is, drop-append-le, ecb_encrypt, joined, key_stream, key_stream_next, length-append, length-drop, length-number_block, map-append, nil_from_length, number_block, number_of_block, take-append-le, take_all}
 use Rattle.std.proofs.lemmas.Grind.{flat_map-append}
 
 -- one more block

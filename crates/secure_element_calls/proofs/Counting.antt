@@ -1,7 +1,6 @@
 -- How often a device has computed.
 use Rattle.std.proofs.Common.{arith, inl, inr, ℕ, ◌<◌, ◌≡◌}
-use Rattle.secure_element_calls.proofs.Common.{Rose, one_more}
-use Rattle.std.proofs.lemmas.Bool.{cases_eq}
+use Rattle.secure_element_calls.proofs.Common.{cases_eq, one_more, Rose}
 
 -- one more call, after none or after some
 pub rose_again : (n start before now : ℕ) → (n ≡ 0 → before ≡ start) → (0 < n → Rose start before) → now ≡ one_more before → Rose start now

@@ -1,7 +1,6 @@
 -- The lengths of what is computed.
 use Rattle.std.proofs.Common.{List, [], ap, arith, drop, length, replicate, sym, take, ℕ, ◌*◌, ◌++◌, ◌∙◌, ◌∷◌, ◌≡◌}
-use Rattle.secure_element_calls.proofs.Common.{aes_encrypt, block_count, blocks, chain_step, chained, cmac, ctr_xor, front_count, hmac, key_stream, last_block, length-aes_encrypt, length-xor_bytes, mac_of, tag_bytes, xor_bytes}
-use Rattle.std.proofs.lemmas.List.{length-take}
+use Rattle.secure_element_calls.proofs.Common.{aes_encrypt, block_count, blocks, chain_step, chained, cmac, ctr_xor, front_count, hmac, key_stream, last_block, length-aes_encrypt, length-take, length-xor_bytes, mac_of, tag_bytes, xor_bytes}
 use Rattle.std.specs.List.{fold}
 use Rattle.crypto_specs.proofs.KeyStream.{length-key_stream}
 use Rattle.hash_ops.proofs.Digests.{length-hash_of}

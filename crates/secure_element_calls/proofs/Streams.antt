@@ -1,7 +1,6 @@
 -- A text in CTR mode, piece by piece.
 use Rattle.std.proofs.Common.{List, [], ap, ap₂, arith, bit_xor, drop, length, min, refl, slice_index, suc, sym, take, ℕ, ◌%◌, ◌*◌, ◌++◌, ◌+◌, ◌-◌, ◌/◌, ◌<◌, ◌^◌, ◌∙◌, ◌∷◌, ◌≡◌, ◌≤◌}
-use Rattle.secure_element_calls.proofs.Common.{aes_encrypt, block_number, ctr_xor, drop_all, drop_min, number_block, number_of_block, take_min}
-use Rattle.std.proofs.lemmas.List.{append-nil, take_all}
+use Rattle.secure_element_calls.proofs.Common.{aes_encrypt, append-nil, block_number, ctr_xor, drop_all, drop_min, number_block, number_of_block, take_all, take_min}
 use borrow.Rule.Slice.PartMut.{put_mid}
 use Rattle.aead_streams.specs.declared.counter_width.CounterWidth.TheVariants.{Whole}
 use Rattle.aead_streams.specs.Counters.{byte_of_stream, stream_block, text_xor}

@@ -1,7 +1,6 @@
 -- What a cipher writes to a buffer.
 use Rattle.std.proofs.Common.{Err, List, None, Ok, Option, Result, Some, [], ap, arith, drop, length, refl, replicate, subst, sym, take, ℕ, ◌++◌, ◌+◌, ◌-◌, ◌∙◌, ◌≡◌, ◌≤◌}
-use Rattle.single_part.proofs.Common.{AnswersOrSpoils, Mode, Reply, Status, buffer_after, buffer_bytes, deciphered, decrypt_rows, decrypted_reply, enciphered, enciphered_length, encrypt_rows, first_row, given, iv_length, plain_or_zeros, refusal, reply_unless, take-append_seam, unless, unless-ok}
-use Rattle.std.proofs.lemmas.List.{append-nil, length-take, length-drop, length-append, drop_all, take-take}
+use Rattle.single_part.proofs.Common.{AnswersOrSpoils, append-nil, buffer_after, buffer_bytes, deciphered, decrypt_rows, decrypted_reply, drop_all, enciphered, enciphered_length, encrypt_rows, first_row, given, iv_length, length-append, length-drop, length-take, Mode, plain_or_zeros, refusal, Reply, reply_unless, Status, take-append_seam, take-take, unless, unless-ok}
 use Rattle.std.proofs.lemmas.Slice.{drop-append-drop}
 
 -- a refusal of the table

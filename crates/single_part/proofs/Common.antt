@@ -17,4 +17,6 @@ pub use Rattle.single_part.specs.Laws.{DrawsAVector, DrawsOnSuccess, HashCallsAr
 pub use Rattle.std.proofs.Math.Seq.{take-append-add, take-append_seam}
 pub use Rattle.std.proofs.lemmas.Result.{err_from_is_err_and}
 pub use Rattle.std.specs.Result.{result_err}
-pub use Rattle.store_model.specs.Prelude.{CbcNoPadding, CbcPkcs7, Computed, Ctr, EcbNoPadding, Key, Mode, Random, Reply, Store, buffer_after, buffer_bytes, bytes_of_key, cipher_usage, class_rows, computed_unless, deciphered, decrypt_rows, decrypted_reply, enciphered, enciphered_length, encrypt_rows, encrypted, export_reply, given, is_ctr, is_opaque, is_opaque_key, iv_length, mac_usage, mode_of, plain_or_zeros, refusal, replies, reply_unless, room_rows, use_rows, with_computed}
+pub use Rattle.store_model.specs.Prelude.{buffer_after, buffer_bytes, bytes_of_key, CbcNoPadding, CbcPkcs7, cipher_usage, class_rows, Computed, computed_unless, Ctr, deciphered, decrypt_rows, decrypted_reply, EcbNoPadding, enciphered, enciphered_length, encrypt_rows, encrypted, export_reply, given, is_ctr, is_opaque, is_opaque_key, iv_length, Key, mac_usage, Mode, mode_of, plain_or_zeros, Random, refusal, replies, Reply, reply_unless, room_rows, Store, use_rows, verified_reply, with_computed}
+pub use Rattle.key_policy.specs.Permissions.{export_refusal, IsKeyFor}
+pub use Rattle.std.proofs.lemmas.List.{append-nil, drop_all, length-append, length-drop, length-take, take-append-drop, take-take}

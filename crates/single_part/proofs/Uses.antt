@@ -1,7 +1,6 @@
 -- The refusals of a key's use, on a key that the secure element doesn't hold or doesn't compute with.
 use Rattle.std.proofs.Common.{Bool, None, Option, Some, bit_and, cond, false, if◌then◌else◌, length, refl, true, ℕ, ◌==◌, ◌≡◌}
-use Rattle.single_part.proofs.Common.{CbcNoPadding, CbcPkcs7, Cipher, Class, Ctr, EcbNoPadding, Key, NotPermitted, NotSupported, Reply, Status, bytes_of_key, computed_unless, export_reply, exported_reply, first_row, given, is_ctr, is_opaque, is_opaque_key, mode_of, replies, reply_unless, room_rows, use_rows}
-use Rattle.key_policy.specs.Permissions.{export_refusal}
+use Rattle.single_part.proofs.Common.{bytes_of_key, CbcNoPadding, CbcPkcs7, Cipher, Class, computed_unless, Ctr, EcbNoPadding, export_refusal, export_reply, exported_reply, first_row, given, is_ctr, is_opaque, is_opaque_key, Key, mode_of, NotPermitted, NotSupported, replies, Reply, reply_unless, room_rows, Status, use_rows}
 use Rattle.key_policy.proofs.Devices.{local_alike}
 use Rattle.secure_element_calls.specs.Calls.{ctr}
 

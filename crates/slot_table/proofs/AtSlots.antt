@@ -1,6 +1,5 @@
 -- What stands at the slots of a table, for this crate and those above it.
-use Rattle.slot_table.proofs.Common.{Bool, Empty, Filling, Full, IsEmptyAt, IsLawful, IsNext, List, NoneEmpty, Slot, SlotState, Some, Table, [], ap, arith, buffer_of, bytes_of, cases_eq, cases_lt, cond, empty_slot, eqb-true, false, false≢true, find, get_or_past, holds_key, is_empty_state, is_full, is_idle, length, refl, replicate, set, slot_at, sym, true, ℕ, ⊎_elim, ◌&&◌, ◌-◌, ◌<◌, ◌==◌, ◌∙◌, ◌∷◌, ◌≡◌, ◌≢◌}
-use Rattle.std.proofs.lemmas.List.{get_or-set_same, get_or-set_other, take_at}
+use Rattle.slot_table.proofs.Common.{[], ap, arith, Bool, buffer_of, bytes_of, cases_eq, cases_lt, cond, Empty, empty_slot, eqb-true, false, false≢true, Filling, find, Full, get_or-set_other, get_or-set_same, get_or_past, holds_key, is_empty_state, is_full, is_idle, IsEmptyAt, IsLawful, IsNext, length, List, NoneEmpty, refl, replicate, set, Slot, slot_at, SlotState, Some, sym, Table, take_at, true, ℕ, ⊎_elim, ◌&&◌, ◌-◌, ◌<◌, ◌==◌, ◌∙◌, ◌∷◌, ◌≡◌, ◌≢◌}
 use Rattle.key_attributes.specs.Checks.{persistence}
 
 -- what holds of the new slot and of each other one holds of each slot after the change

@@ -9,7 +9,5 @@ pub use Rattle.slot_table.specs.Slots.{CanReserve, IsEmptyAt, IsLawful, IsLawful
 pub use Rattle.slot_table.specs.declared.place.Head.{Head}
 pub use Rattle.std.proofs.lemmas.Bool.{cases_eq, cases_lt, false≢true}
 pub use Rattle.std.proofs.lemmas.Bool.Decides.{nat_tests}
-pub use Rattle.std.proofs.lemmas.List.{get_or_past, get_or_read, length-replicate, set-get_or}
-pub use Rattle.std.proofs.Common.{Bool, List, MatchOption, None, Option, Some, []}
-pub use Rattle.std.proofs.Common.{add-zero, add_assoc, ap, arith, below_more, cond, drop, eqb, eqb-true, false, find, get_or, inl, inr, is_some, length, not, refl, replicate, rules, set, subst, suc, sym, true, vec_capacity, zero, zero-add, ℕ, ⊎_elim}
-pub use Rattle.std.proofs.Common.{◌&&◌, ◌++◌, ◌+◌, ◌-◌, ◌<◌, ◌==◌, ◌∙◌, ◌∷◌, ◌≡◌, ◌≢◌, ◌≤◌}
+pub use Rattle.std.proofs.lemmas.List.{get_or-set_other, get_or-set_same, get_or_past, get_or_read, length-replicate, length-set, set-get_or, set-set, take_at}
+pub use Rattle.std.proofs.Common.{Bool, List, MatchOption, None, Option, Some, [], add-zero, add_assoc, ap, arith, below_more, cond, drop, eqb, eqb-true, false, find, get_or, inl, inr, is_some, length, not, refl, replicate, rules, set, subst, suc, sym, true, vec_capacity, zero, zero-add, ℕ, ⊎_elim, ◌&&◌, ◌++◌, ◌+◌, ◌-◌, ◌<◌, ◌==◌, ◌∙◌, ◌∷◌, ◌≡◌, ◌≢◌, ◌≤◌}

@@ -1,6 +1,5 @@
 -- What keeps the law of a table.
-use Rattle.slot_table.proofs.Common.{Bool, CanReserve, Empty, Filling, Full, IsEmptyAt, IsLawful, IsLawfulSlot, List, MatchOption, NoKey, None, NoneEmpty, Option, Pending, Slot, SlotState, Some, Table, [], add-zero, ap, arith, buffer_of, cases_eq, cond, empty_slot, false, false≢true, find, full_slot, get_or_past, holds_key, inl, inr, is_empty_state, is_full, is_idle, is_last, is_pending, is_some, length, length-replicate, nat_tests, recency_without, refl, replicate, rules, set, slot_at, sym, times, true, ℕ, ⊎_elim, ◌&&◌, ◌++◌, ◌+◌, ◌-◌, ◌<◌, ◌==◌, ◌∙◌, ◌∷◌, ◌≡◌, ◌≢◌, ◌≤◌}
-use Rattle.std.proofs.lemmas.List.{length-set}
+use Rattle.slot_table.proofs.Common.{[], add-zero, ap, arith, Bool, buffer_of, CanReserve, cases_eq, cond, Empty, empty_slot, false, false≢true, Filling, find, Full, full_slot, get_or_past, holds_key, inl, inr, is_empty_state, is_full, is_idle, is_last, is_pending, is_some, IsEmptyAt, IsLawful, IsLawfulSlot, length, length-replicate, length-set, List, MatchOption, nat_tests, NoKey, None, NoneEmpty, Option, Pending, recency_without, refl, replicate, rules, set, Slot, slot_at, SlotState, Some, sym, Table, times, true, ℕ, ⊎_elim, ◌&&◌, ◌++◌, ◌+◌, ◌-◌, ◌<◌, ◌==◌, ◌∙◌, ◌∷◌, ◌≡◌, ◌≢◌, ◌≤◌}
 use Rattle.key_attributes.specs.declared.Attributes.{Attributes}
 use Rattle.slot_table.proofs.AtSlots.{at_each, full_test, read_within, key_is_full, idle_is_full, idle_is_unread, bytes-buffer_of, find_passes}
 use Rattle.slot_table.proofs.Views.{get_or-replicate_same}

@@ -1,5 +1,5 @@
 -- Lists of passes.
-use Rattle.std.proofs.Common.{List, Option, [], ap, arith, get_or, length, length-append, refl, subst, suc, sym, ℕ, ◌*◌, ◌++◌, ◌+◌, ◌-◌, ◌<◌, ◌∙◌, ◌∷◌, ◌≡◌}
+use Rattle.std.proofs.Common.{List, Option, [], ap, arith, get_or, length, length-append, refl, subst, sym, ℕ, ◌*◌, ◌++◌, ◌+◌, ◌-◌, ◌<◌, ◌∙◌, ◌∷◌, ◌≡◌}
 use Rattle.turn_history.proofs.Common.{AreNew, Mine, TURNS, View, account_of, accounts_of, after_making, dec_lt, dite, made_pass, maker_of, new_pass, weight_of}
 use Rattle.std.proofs.Math.ListN.{get_or-append}
 use Rattle.atomic_table.specs.Seated.{TableId}
@@ -39,11 +39,3 @@ module _ {V E B : Type 0} where
       last_is : (qs : List (Seat (Option V) (View E B))) (d : Seat (Option V) (View E B)) → get_or (qs ++ p ∷ []) (length qs) d ≡ p
       last_is [] d = refl
       last_is (q ∷ qs) d = last_is qs d
-
-  ones : (ps : List (Seat (Option V) (View E B))) → ((k : ℕ) (d : Seat (Option V) (View E B)) → k < length ps → (get_or ps k d).me.0.weight ≡ 1) → weight_of ps ≡ length ps
-  ones [] each = refl
-  ones (p ∷ ps) each = let first = each 0 p (omega arith) in let more = ones ps (λ k d lt. each (suc k) d (omega arith)) in omega arith
-
-  -- new passes weigh what they are
-  pub new_weight : (z : TableId) (b : B) (n : ℕ) (ps : List (Seat (Option V) (View E B))) → AreNew z b n ps → weight_of ps ≡ n
-  new_weight z b n ps new = ones ps (λ k d lt. ap (λ (m : Mine V E B). m.0.weight) (new.each k d lt).1) ∙ new.counted

@@ -2,7 +2,7 @@
 use Rattle.std.proofs.Common.{Bool, List, Option, Some, [], ap, arith, cond, eqb, eqb-true, false, length, length-append, refl, slice_get, subst, suc, sym, true, ℕ, ⊎_elim, ◌++◌, ◌+◌, ◌-◌, ◌∙◌, ◌∷◌, ◌≡◌, ◌≢◌, ◌≤◌, ◌⊎◌}
 use Rattle.turn_history.proofs.Common.{Holding, StartsWith, calls_by, choose, dec_lt, dite, entries_of, longer, held_by, set-get_or, with_held_by}
 use Rattle.std.proofs.lemmas.Bool.{le-ltb, lt-ltb}
-use Rattle.turn_history.proofs.Lists.{entries-append, calls-append, begins_itself, two_beginnings}
+use Rattle.turn_history.proofs.Lists.{entries-append, begins_itself, two_beginnings}
 
 -- nothing changes where a pass keeps what it has
 pub keeps_own : (holdings : List Holding) (n : ℕ) (own : Holding) → held_by holdings n ≡ own → with_held_by holdings n own ≡ holdings
@@ -47,9 +47,3 @@ module _ {E : Type 0} where
         chosen true false e xs ys l not le = omega arith
         chosen false true e xs ys l not le = omega arith
         chosen false false e xs ys l not le = omega arith
-
-    -- a longer history has no fewer calls of a pass
-    pub no_fewer_calls : (n : ℕ) (whole part : List (Option E)) → StartsWith whole part → length (calls_by by n (entries_of part)) ≤ length (calls_by by n (entries_of whole))
-    no_fewer_calls n whole part s = let C : List E → List E = calls_by by n in
-        let a = ap (λ l. length (C (entries_of l))) s.1 in let b = ap (λ (l : List E). length (C l)) (entries-append part s.0) in
-        let d = ap (λ (l : List E). length l) (calls-append by n (entries_of part) (entries_of s.0)) in omega (arith, length-append (C (entries_of part)) (C (entries_of s.0)))

@@ -1,6 +1,5 @@
 use Rattle.std.proofs.Common.{is_some, length, ◌≡◌}
-use Rattle.command_words.proofs.Common.{labels_in}
-use Rattle.std.specs.Str.{IsUtf8}
+use Rattle.command_words.proofs.Common.{IsUtf8, labels_in}
 use Rattle.command_words.proofs.labels.are_labels.Given as goal
 
 abbrev pub invariant-loop-word : goal.invariant-loop-word

@@ -1,6 +1,5 @@
 use Rattle.std.proofs.Common.{length, ◌≡◌}
-use Rattle.command_words.proofs.Common.{behind, labels_in}
-use Rattle.std.specs.Str.{IsUtf8}
+use Rattle.command_words.proofs.Common.{behind, IsUtf8, labels_in}
 use Rattle.command_words.proofs.labels.read_labels.Given as goal
 
 abbrev pub invariant-loop-word : goal.invariant-loop-word

@@ -1,6 +1,5 @@
 use Rattle.std.proofs.Common.{List, ap, arith, length, refl, sym, take, ℕ, ◌*◌, ◌++◌, ◌+◌, ◌-◌, ◌∙◌}
-use Rattle.secure_element_calls.proofs.Common.{blocks, counter_next, ecb_encrypt, key_stream, length-number_block, number_block}
-use Rattle.std.proofs.lemmas.List.{length-take, take_all}
+use Rattle.secure_element_calls.proofs.Common.{blocks, counter_next, ecb_encrypt, key_stream, length-number_block, length-take, number_block, take_all}
 use Rattle.std.proofs.lemmas.Slice.{take-put_mid}
 use Rattle.secure_element_calls.proofs.CounterBlocks.{next_counter}
 use Rattle.secure_element_calls.proofs.counters.fill_counters.Goals as goal

@@ -1,6 +1,5 @@
 use Rattle.std.proofs.Common.{Bool, List, ap, cond, length, refl, rules, subst, sym, true, ℕ, ◌<◌, ◌∙◌, ◌≡◌}
-use Rattle.cipher_states.proofs.Common.{After, AnswersOrSpoils, CipherWork, GivesBytes, HoldsCipher, InError, Inactive, buffer_after, is_whole_text, last_length, model_mode, pkcs7_unpadded, takes_text}
-use Rattle.std.proofs.lemmas.Bool.{eqb-true}
+use Rattle.cipher_states.proofs.Common.{After, AnswersOrSpoils, buffer_after, CipherWork, eqb-true, GivesBytes, HoldsCipher, Inactive, InError, is_whole_text, last_length, model_mode, pkcs7_unpadded, takes_text}
 use Rattle.cipher_states.proofs.LastParts.{unpadded_end}
 use Rattle.cipher_states.proofs.Finishing.{not_none, room_is, block_buffer, ends_bare, part_kept, ends_padded, block_kept, ends_unpadded}
 use Rattle.cipher_states.proofs.running.RunningCipher.last_part.Goals as goal

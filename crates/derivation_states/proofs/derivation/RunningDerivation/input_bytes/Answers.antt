@@ -1,10 +1,6 @@
 use Rattle.std.proofs.Common.{Bool, List, Option, Some, ap, cond, false, sym, true, ℕ, ◌++◌, ◌==◌, ◌∙◌, ◌≡◌}
-use Rattle.derivation_states.proofs.Common.{DerivationWork, HoldsOutput, block_at, bytes_or_empty}
-use Rattle.std.proofs.lemmas.Bool.{and_parts, eqb-true, not-false, not-true}
-use Rattle.store_model.specs.Prelude.{info_step, input_bytes_rows, is_due, is_salt_due, is_secret_due, salt_step}
-use Rattle.store_model.specs.DerivationOperations.{is_info_due}
+use Rattle.derivation_states.proofs.Common.{and_parts, block_at, bytes_or_empty, DerivationWork, eqb-true, HoldsOutput, info_step, input_bytes_rows, is_due, is_info_due, is_salt_due, is_secret_due, not-false, not-true, OutputState, salt_step}
 use Rattle.store_model.proofs.Tables.{none_holds}
-use Rattle.derivation_states.specs.declared.output.OutputState.{OutputState}
 use Rattle.derivation_states.proofs.derivation.RunningDerivation.input_bytes.Goals as goal
 
 -- an input that comes before any byte was taken leaves the output

@@ -1,6 +1,5 @@
 use Rattle.std.proofs.Common.{List, ap, arith, length, subst, sym, take, ℕ, ◌++◌, ◌+◌, ◌-◌, ◌∙◌, ◌≡◌}
-use Rattle.derivation_states.proofs.Common.{HasSecret, next_derived, without}
-use Rattle.std.proofs.lemmas.List.{length-take, take_at}
+use Rattle.derivation_states.proofs.Common.{HasSecret, length-take, next_derived, take_at, without}
 use Rattle.derivation_states.proofs.Derived.{next_derived_add}
 use Rattle.derivation_states.proofs.Running.{length-given, ready_blocks, without_twice}
 use Rattle.derivation_states.proofs.output.OutputState.fill_front.Goals as goal

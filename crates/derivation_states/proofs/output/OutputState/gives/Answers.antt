@@ -1,6 +1,5 @@
 use Rattle.std.proofs.Common.{Bool, List, [], ap, ap₂, arith, bytes_eq, eqb, get_or, length, refl, subst, sym, take, ℕ, ◌&&◌, ◌++◌, ◌+◌, ◌∙◌, ◌∷◌, ◌≡◌}
-use Rattle.derivation_states.proofs.Common.{HasSecret, next_derived, take_more, without}
-use Rattle.std.proofs.lemmas.List.{length-take}
+use Rattle.derivation_states.proofs.Common.{HasSecret, length-take, next_derived, take_more, without}
 use Rattle.multipart.proofs.ByteLists.{bytes_eq_push}
 use Rattle.derivation_states.proofs.Running.{length-given, none_taken, one_more, without_none, without_twice}
 use Rattle.derivation_states.proofs.output.OutputState.gives.Goals as goal

@@ -1,9 +1,7 @@
 use Rattle.std.proofs.Common.{List, None, Option, Some, add-one, ap, arith, false, is_some, refl, suc, sym, true, unwrap_or, ℕ, ◌+◌, ◌-◌, ◌∙◌, ◌≡◌, ◌≤◌}
-use Rattle.derivation_states.proofs.Common.{DerivationWork, HoldsInputs, Inputs, KeyDerivation, NamesDerivation, block_at, block_length, bytes_or_empty, cond-false, cond-true, expand_block, hash_of, hmac_key, is_hkdf, number_or_zero, pbkdf2_block}
-use Rattle.std.specs.Option.{option_map}
+use Rattle.derivation_states.proofs.Common.{block_at, block_length, bytes_or_empty, cond-false, cond-true, DerivationWork, expand_block, given_bytes, hash_of, hmac_key, HoldsInputs, Inputs, is_hkdf, KeyDerivation, NamesDerivation, number_or_zero, option_map, pbkdf2_block}
 use Rattle.derivation_states.proofs.Blocks.{block_of_hkdf, block_of_pbkdf2, by_pbkdf2, prk_of}
 use Rattle.key_policy.specs.Names.{is_hkdf as is_hkdf_scheme}
-use Rattle.derivation_states.specs.Inputs.{given_bytes}
 use Rattle.derivation_states.proofs.output.OutputState.write_next.Goals as goal
 
 mapped : (f : List ℕ → List ℕ) (o : Option (List ℕ)) → is_some o ≡ true → bytes_or_empty (option_map f o) ≡ f (bytes_or_empty o)

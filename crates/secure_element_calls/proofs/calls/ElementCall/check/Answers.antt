@@ -1,6 +1,5 @@
 use Rattle.std.proofs.Common.{List, arith, drop, length, subst, sym, take, ℕ, ◌∙◌, ◌≡◌}
-use Rattle.secure_element_calls.proofs.Common.{aes_encrypt, ctr_xor, given_by, needed_by}
-use Rattle.std.proofs.lemmas.List.{length-append, length-drop}
+use Rattle.secure_element_calls.proofs.Common.{aes_encrypt, ctr_xor, given_by, length-append, length-drop, needed_by}
 use Rattle.secure_element_calls.proofs.Holding.{on_ok}
 use Rattle.secure_element_calls.proofs.Lengths.{length-ctr}
 use Rattle.secure_element_calls.proofs.calls.ElementCall.check.Goals as goal

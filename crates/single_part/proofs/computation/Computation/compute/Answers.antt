@@ -1,10 +1,8 @@
 use Rattle.std.proofs.Common.{List, ap, refl, subst, sym, ℕ, ◌∙◌, ◌≡◌}
 use Rattle.alg_encoding.specs.declared.algorithm.Alg.{Alg}
 use Rattle.service_calls.specs.declared.store_calls.Keyed.{Keyed}
-use Rattle.single_part.proofs.Common.{Class, KeyedCall, algorithm_in, wanted_by}
-use Rattle.key_policy.specs.Permissions.{IsKeyFor}
+use Rattle.single_part.proofs.Common.{algorithm_in, Class, IsKeyFor, KeyedCall, verified_reply, wanted_by}
 use Rattle.key_policy.specs.Uses.{FitsUse}
-use Rattle.store_model.specs.Prelude.{verified_reply}
 use Rattle.single_part.proofs.Draws.{draws_none}
 use Rattle.single_part.proofs.computation.Computation.compute.Goals as goal
 

@@ -1,5 +1,4 @@
-use Rattle.slot_table.proofs.Common.{Slot, Table, ap, empty_slot, is_empty_state, length, recency_without, sym, ◌<◌, ◌∙◌}
-use Rattle.std.proofs.lemmas.List.{set-set, length-set, get_or-set_same}
+use Rattle.slot_table.proofs.Common.{ap, empty_slot, get_or-set_same, is_empty_state, length, length-set, recency_without, set-set, Slot, sym, Table, ◌<◌, ◌∙◌}
 use Rattle.slot_table.proofs.AtSlots.{full_within}
 use Rattle.slot_table.proofs.Laws.{first_is_full, empty_is_not_recent}
 use Rattle.slot_table.proofs.table.SlotTable.reserve.Goals as goal
