@@ -1,9 +1,8 @@
 -- What a caller sees of a service: its own, how many keys it made, the settings, and its volatile keys but for their numbers.
 use Rattle.std.proofs.Common.{List, None, Option, Some, [], arith, get_or, inl, inr, is_some, length, refl, set, suc, sym, true, zero, ℕ, ◌∙◌, ◌∷◌, ◌≡◌, ◌⊎◌}
-use Rattle.line_generator.proofs.Common.{Key, Outcome, Service, Store, is_volatile_of, live_volatile, made_of, new_own, on_store, own_of, with_drawn}
+use Rattle.line_generator.proofs.Common.{is_volatile_of, Key, length-set, live_volatile, made_of, new_own, on_store, Outcome, own_of, Service, Store, with_drawn}
 use Rattle.std.specs.Option.{option_map}
 use Rattle.std.specs.FinMap as map
-use Rattle.std.proofs.lemmas.List.{length-set}
 
 -- a key without its number and its creator
 abbrev pub plain_key : Key → Key

@@ -13,9 +13,11 @@ pub use Rattle.sha2.specs.Hashers.{Holds256}
 unfoldable pub use Rattle.sha2.specs.Sha256.{sha256}
 pub use Rattle.std.proofs.lemmas.Bool.Decides.{nat_tests}
 pub use Rattle.std.proofs.lemmas.Grind.{flat_map-append}
-pub use Rattle.std.proofs.lemmas.List.{length-map, map-append, take_more}
+pub use Rattle.std.proofs.lemmas.List.{append-nil, length-map, length-set, map-append, take_more}
 pub use Rattle.std.proofs.lemmas.List.Elements.{All-head, All-push, All-tail}
 pub use Rattle.std.proofs.lemmas.List.Sums.{sum-map, sum_by-cons, sum_by_more}
 pub use Rattle.std.specs.List.{list_any, range_with_len}
 pub use Rattle.store_model.proofs.Sound.{put, room_of, taken}
-pub use Rattle.store_model.specs.Prelude.{CipherEncrypt, Computed, Destroy, Entry, Export, Identifier, Import, Key, MacCompute, OnStore, Outcome, Own, Plain, Reply, Request, Served, Service, Settings, Store, bytes_of_key, cipher_usage, compute_rows, computed_unless, count_persistent, created, created_unless, decided, destroy_rows, destroyed, encrypt_rows, encrypted, export_reply, export_rows, file_rows, given, has_secure_element, identified, is_ctr, is_volatile, is_volatile_of, iv_length, live_volatile, mac_reply, mac_usage, made_of, mode_of, new_id, new_key, new_own, on_store, outcome_of, output_bytes, own_of, recorded_of, refused, replies, reply_unless, room_for_key_rows, serve, use_rows, with_computed, with_drawn}
+pub use Rattle.store_model.specs.Prelude.{bytes_of_key, cipher_usage, CipherEncrypt, compute_rows, Computed, computed_unless, count_persistent, counted, created, created_unless, decided, Destroy, destroy_rows, destroyed, encrypt_rows, encrypted, Entry, Export, export_reply, export_rows, given, has_secure_element, identified, Identifier, Import, is_ctr, is_volatile, is_volatile_of, iv_length, Key, live_volatile, mac_reply, mac_usage, MacCompute, made_of, mode_of, new_id, new_key, new_own, on_store, OnStore, Outcome, outcome_of, output_bytes, Own, own_of, Plain, recorded_of, refused, replies, Reply, reply_unless, Request, room_for_key_rows, serve, Served, Service, Settings, Store, use_rows, with_computed, with_drawn}
+pub use Rattle.std.proofs.lemmas.Bool.{cond-false, eqb-false, false_from_ne_true}
+pub use Rattle.std.proofs.lemmas.List.FromFn.{length-map-range_with_len, map-range_with_len_more}

@@ -1,8 +1,7 @@
 -- What a caller's import of a volatile key makes, by what that caller sees.
 use Rattle.std.proofs.Common.{Bool, Err, IfOk, List, None, Ok, Option, Result, Some, [], ap, cond, false, get_or, is_some, length, nat_le, not, refl, slice_set, subst, sym, true, ℕ, ◌%◌, ◌&&◌, ◌*◌, ◌+◌, ◌==◌, ◌^◌, ◌||◌, ◌∙◌, ◌∷◌, ◌≡◌}
-use Rattle.line_generator.proofs.Common.{AlreadyExists, Attributes, InsufficientStorage, Key, KeyLimit, NotSupported, Rows, Settings, Status, Store, count_persistent, created, file_rows, first_row, has_secure_element, identified, is_volatile, is_volatile_of, list_any, live_volatile, new_id, new_key, put, recorded_of, room_for_key_rows, unless}
+use Rattle.line_generator.proofs.Common.{AlreadyExists, Attributes, count_persistent, created, first_row, has_secure_element, identified, InsufficientStorage, is_volatile, is_volatile_of, Key, KeyLimit, length-set, list_any, live_volatile, new_id, new_key, put, recorded_of, room_for_key_rows, Rows, Settings, Status, Store, unless}
 use Rattle.std.specs.FinMap as map
-use Rattle.std.proofs.lemmas.List.{length-set}
 use Rattle.psa_status.specs.Rows.{◌>>=◌}
 use Rattle.psa_status.proofs.Rows.{unless-ok}
 use Rattle.key_attributes.specs.Checks.{attribute_rows, checked, filled}
@@ -52,32 +51,28 @@ rules_keep (label ∷ labels) a = verdict_keeps a (narrowed label a) (after_rule
 -- what is recorded under these settings, where the room for a key refuses by these rows
 abbrev recorded_by : Settings → (Attributes → Rows) → Attributes → ℕ → Result Attributes Status
 recorded_by settings rooms a n =
-    unless (first_row ((not (is_volatile a || settings.has_file), NotSupported) ∷ [])) a
-    >>= (λ stated. checked stated n (list_any (λ location. location == 1) settings.locations)
+    checked a n (list_any (λ location. location == 1) settings.locations)
     >>= (λ filled_in. after_rules settings.labels filled_in
-    >>= (λ kept. unless (first_row (rooms kept)) kept)))
+    >>= (λ kept. unless (first_row (rooms kept)) kept))
 
 then_same : {A B : Type 0} (r : Result A Status) (f g : A → Result B Status) → ((x : A) → r ≡ Ok x → f x ≡ g x) → (r >>= f) ≡ (r >>= g)
 then_same (Ok x) f g h = h x refl
 then_same (Err s) f g h = refl
 
-stays_volatile : (settings : Settings) (a stated filled_in kept : Attributes) (n : ℕ) → is_volatile a ≡ true →
-    unless (first_row ((not (is_volatile a || settings.has_file), NotSupported) ∷ [])) a ≡ Ok stated →
-    checked stated n (list_any (λ location. location == 1) settings.locations) ≡ Ok filled_in → after_rules settings.labels filled_in ≡ Ok kept → is_volatile kept ≡ true
-stays_volatile settings a stated filled_in kept n v one two three =
-    let same : a ≡ stated = (unless-ok (first_row ((not (is_volatile a || settings.has_file), NotSupported) ∷ [])) a stated one).1 in
-    let full : filled stated n ≡ filled_in = (unless-ok (first_row (attribute_rows stated n (list_any (λ location. location == 1) settings.locations))) (filled stated n) filled_in two).1 in
-    let last : SameLifetime filled_in kept = subst (λ r. IfOk r (SameLifetime filled_in)) three (rules_keep settings.labels filled_in) in
-    let lifetime : kept.lifetime ≡ a.lifetime = last ∙ sym (ap (λ (x : Attributes). x.lifetime) full) ∙ sym (ap (λ (x : Attributes). x.lifetime) same) in
+stays_volatile : (settings : Settings) (a filled_in kept : Attributes) (n : ℕ) → is_volatile a ≡ true →
+    checked a n (list_any (λ location. location == 1) settings.locations) ≡ Ok filled_in → after_rules settings.labels filled_in ≡ Ok kept → is_volatile kept ≡ true
+stays_volatile settings a filled_in kept n v one two =
+    let full : filled a n ≡ filled_in = (unless-ok (first_row (attribute_rows a n (list_any (λ location. location == 1) settings.locations))) (filled a n) filled_in one).1 in
+    let last : SameLifetime filled_in kept = subst (λ r. IfOk r (SameLifetime filled_in)) two (rules_keep settings.labels filled_in) in
+    let lifetime : kept.lifetime ≡ a.lifetime = last ∙ sym (ap (λ (x : Attributes). x.lifetime) full) in
     subst (λ l. (l.0 % 2 ^ 8 == 0) ≡ true) (sym lifetime) v
 
 by_rooms : (settings : Settings) (a : Attributes) (n : ℕ) (one other : Attributes → Rows) → is_volatile a ≡ true →
     ((kept : Attributes) → is_volatile kept ≡ true → one kept ≡ other kept) → recorded_by settings one a n ≡ recorded_by settings other a n
 by_rooms settings a n one other v same =
-    then_same (unless (first_row ((not (is_volatile a || settings.has_file), NotSupported) ∷ [])) a) _ _ (λ stated first.
-    then_same (checked stated n (list_any (λ location. location == 1) settings.locations)) _ _ (λ filled_in second.
-    then_same (after_rules settings.labels filled_in) _ _ (λ kept third.
-    ap (λ rows. unless (first_row rows) kept) (same kept (stays_volatile settings a stated filled_in kept n v first second third)))))
+    then_same (checked a n (list_any (λ location. location == 1) settings.locations)) _ _ (λ filled_in first.
+    then_same (after_rules settings.labels filled_in) _ _ (λ kept second.
+    ap (λ rows. unless (first_row rows) kept) (same kept (stays_volatile settings a filled_in kept n v first second))))
 
 room_rows_of : (volatile full taken many : Bool) → Rows
 room_rows_of volatile full taken many = (volatile && full, KeyLimit) ∷ (not volatile && taken, AlreadyExists) ∷ (not volatile && many, InsufficientStorage) ∷ []
@@ -103,11 +98,10 @@ recorded_same caller a b stated n h v =
 pub recorded_volatile : (store : Store) (caller : ℕ) (stated kept : Attributes) (n : ℕ) → is_volatile stated ≡ true → recorded_of store caller stated n ≡ Ok kept →
     (is_volatile kept ≡ true) × (first_row (room_for_key_rows store caller kept) ≡ None)
 recorded_volatile store caller a kept n v e =
-    let one = then_ok (unless (first_row (file_rows store a)) a) _ kept e in
-    let two = then_ok (checked one.0 n (has_secure_element store)) _ kept one.1.1 in
-    let three = then_ok (after_rules store.settings.labels two.0) _ kept two.1.1 in
-    let last = unless-ok (first_row (room_for_key_rows store caller three.0)) three.0 kept three.1.1 in (
-      subst (λ (x : Attributes). is_volatile x ≡ true) last.1 (stays_volatile store.settings a one.0 two.0 three.0 n v one.1.0 two.1.0 three.1.0),
+    let one = then_ok (checked a n (has_secure_element store)) _ kept e in
+    let two = then_ok (after_rules store.settings.labels one.0) _ kept one.1.1 in
+    let last = unless-ok (first_row (room_for_key_rows store caller two.0)) two.0 kept two.1.1 in (
+      subst (λ (x : Attributes). is_volatile x ≡ true) last.1 (stays_volatile store.settings a one.0 two.0 n v one.1.0 two.1.0),
       subst (λ (x : Attributes). first_row (room_for_key_rows store caller x) ≡ None) last.1 last.0,
     )
 

@@ -1,7 +1,6 @@
 -- The generator's lines in any order: each session is answered as if it were alone.
 use Rattle.std.proofs.Common.{All, Bool, List, [], ap, codes, cond, count_by, eq-eqb, eqb-true, false, filter, flat_map, get_or, inl, map, not, refl, subst, suc, sym, true, zero, ℕ, ◌%◌, ◌*◌, ◌++◌, ◌+◌, ◌-◌, ◌/◌, ◌==◌, ◌∙◌, ◌∷◌, ◌≡◌}
-use Rattle.line_generator.proofs.Common.{All-head, All-tail, AreCalls, Entry, Plain, Reply, ReplyLine, Request, Served, Service, Turn, attributes_at, call, count_line, rising_bytes, encode_lower, fields, generator_line, generator_lines, id_given, import_fields, is_success, length-map, lines_of, map-append, numbered, outcome_of, output_bytes, range_with_len, replies_to, request_of, serve, sha256, sum_by-cons, summary_of, turns_from, turns_of, unranked_text}
-use Rattle.std.proofs.lemmas.Bool.{eqb-false}
+use Rattle.line_generator.proofs.Common.{All-head, All-tail, AreCalls, attributes_at, call, count_line, encode_lower, Entry, eqb-false, fields, generator_line, generator_lines, id_given, import_fields, is_success, length-map, lines_of, map-append, numbered, outcome_of, output_bytes, Plain, range_with_len, replies_to, Reply, ReplyLine, Request, request_of, rising_bytes, serve, Served, Service, sha256, sum_by-cons, summary_of, Turn, turns_from, turns_of, unranked_text}
 use Rattle.script_lang.specs.declared.commands.ScriptCommand.TheVariants.{Key, SinglePart}
 use Rattle.script_lang.specs.declared.store_commands.KeyCommand.TheVariants.{Import, Export, Destroy}
 use Rattle.script_lang.specs.declared.store_commands.SinglePartCommand.TheVariants.{CipherEncrypt, MacCompute}
@@ -234,12 +233,12 @@ lines_unranked session [] number = refl
 lines_unranked session (t ∷ ts) number = by_turn session number t (turns_of session ts) (t.entry.caller == session) refl (lines_unranked session ts)
 
 sessions_to : (n : ℕ) (ts us : List Turn) → ((session : ℕ) → replies_in (turns_of session ts) ≡ replies_in (turns_of session us)) →
-    map without_rank (replies_to n ts) ≡ map without_rank (replies_to n us)
+    map without_rank (replies_to n (λ session. turns_of session ts)) ≡ map without_rank (replies_to n (λ session. turns_of session us))
 sessions_to zero ts us h = refl
 sessions_to (suc n) ts us h =
-    map-append without_rank (replies_to n ts) (numbered 1 (turns_of (suc n) ts))
+    map-append without_rank (replies_to n (λ session. turns_of session ts)) (numbered 1 (turns_of (suc n) ts))
     ∙ (λ i. sessions_to n ts us h i ++ (lines_unranked (suc n) ts 1 ∙ ap (unranked (suc n) 1) (h (suc n)) ∙ sym (lines_unranked (suc n) us 1)) i)
-    ∙ sym (map-append without_rank (replies_to n us) (numbered 1 (turns_of (suc n) us)))
+    ∙ sym (map-append without_rank (replies_to n (λ session. turns_of session us)) (numbered 1 (turns_of (suc n) us)))
 
 pub replies_alike : RepliesInAnyOrder
 replies_alike start count one other z first second =

@@ -1,13 +1,10 @@
 -- A call of a caller on its own volatile keys: what it answers, and what it leaves, is decided by what the caller sees.
 use Rattle.std.proofs.Common.{Bool, Err, List, None, Ok, Option, Result, Some, [], ap, arith, cond, eqb-true, false, inl, inr, is_some, length, not, refl, slice_set, subst, sym, true, ℕ, ◌&&◌, ◌*◌, ◌+◌, ◌-◌, ◌/◌, ◌<◌, ◌==◌, ◌^◌, ◌∙◌, ◌∷◌, ◌≡◌}
-use Rattle.line_generator.proofs.Common.{Attributes, CipherEncrypt, Computed, Destroy, Export, Identifier, Import, InvalidHandle, Key, MacCompute, OnStore, Outcome, Own, Plain, Request, Served, Service, Settings, Status, Store, Success, bytes_of_key, cipher_usage, compute_rows, computed_unless, created, created_unless, decided, destroy_rows, destroyed, encrypt_rows, encrypted, export_reply, export_rows, first_row, given, id_given, is_ctr, is_volatile, is_volatile_of, iv_length, live_volatile, mac_reply, mac_usage, made_of, mode_of, nat_tests, new_id, new_key, on_store, put, recorded_of, refused, replies, reply_unless, room_for_key_rows, room_of, serve, taken, use_rows, with_computed}
+use Rattle.line_generator.proofs.Common.{Attributes, bytes_of_key, cipher_usage, CipherEncrypt, compute_rows, Computed, computed_unless, cond-false, counted, created, created_unless, decided, Destroy, destroy_rows, destroyed, encrypt_rows, encrypted, Export, export_reply, export_rows, false_from_ne_true, first_row, given, id_given, Identifier, Import, InvalidHandle, is_ctr, is_volatile, is_volatile_of, iv_length, Key, length-set, live_volatile, mac_reply, mac_usage, MacCompute, made_of, mode_of, nat_tests, new_id, new_key, on_store, OnStore, Outcome, Own, Plain, put, recorded_of, refused, replies, reply_unless, Request, room_for_key_rows, room_of, serve, Served, Service, Settings, Status, Store, Success, taken, use_rows, with_computed}
 use Rattle.std.specs.FinMap as map
-use Rattle.std.proofs.lemmas.Bool.{cond-false, false_from_ne_true}
-use Rattle.std.proofs.lemmas.List.{length-set}
 use Rattle.alg_encoding.specs.declared.table.Class.{Class}
 use Rattle.alg_encoding.specs.declared.table.Class.TheVariants.{Cipher, Mac}
 use Rattle.random_streams.specs.RandomWords.{random_bytes}
-use Rattle.store_model.specs.Prelude.{counted}
 use Rattle.store_model.proofs.Others.{leaves_callers, leaves_settings}
 use Rattle.line_generator.proofs.Maps.{len_inserted, len_removed}
 use Rattle.line_generator.proofs.Alike.{Alike, AlikeStores, NoZero, OwnId, looked, after_both, plain, some_of}

@@ -13,7 +13,7 @@ pub record IsOrder (start : Service) (count : ℕ) (history : List Entry) : Type
 
 -- the reply lines of all sessions
 abbrev pub reply_lines_of : Service → List Entry → List ReplyLine
-reply_lines_of start history = replies_to 16 (turns_from 0 start history)
+reply_lines_of start history = replies_to 16 (λ session. turns_of session (turns_from 0 start history))
 
 abbrev pub without_rank : ReplyLine → ReplyLine
 without_rank line = record line { rank = 0 }

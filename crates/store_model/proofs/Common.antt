@@ -24,13 +24,13 @@ pub use Rattle.std.proofs.lemmas.Cmp.{nat_cmp_total, ranked}
 pub use Rattle.std.proofs.lemmas.Nat.{and_assoc, and_comm, and_or_apart, and_or_self, or_comm}
 pub use Rattle.std.specs.Cmp.{unsigned_tied}
 pub use Rattle.std.specs.Int.Bits.{and_self, and_zero_r}
-pub use Rattle.std.specs.Option.{option_map_or}
+pub use Rattle.std.specs.Option.{option_map, option_map_or}
 pub use Rattle.store_model.specs.AeadOperations.{AeadFinish, AeadGenerateNonce, AeadSetLengths, AeadSetNonce, AeadStep, AeadUpdate, AeadUpdateAd, AeadVerify, AeadWork, aead_step, aead_update_rows, aead_work, generate_nonce_rows, nonce_length, set_lengths_rows, set_nonce_rows, update_ad_rows, whole_rows, work_tag}
 pub use Rattle.store_model.specs.Algorithms.{digest, hash_block_length, hash_length_of, hash_of, low_byte, mac_of, tag_bytes}
 pub use Rattle.store_model.specs.Call.{AeadDecrypt, AeadEncrypt, Call, CipherDecrypt, CipherEncrypt, Copy, Destroy, Export, Generate, GetAttributes, HashCompare, HashCompute, Import, MacCompute, MacVerify, Number, Purge, Reply, buffer_after}
 pub use Rattle.store_model.specs.CipherOperations.{CipherFinish, CipherGenerateIv, CipherSetIv, CipherStep, CipherUpdate, CipherWork, bytes_or_empty, cipher_finish_rows, cipher_step, cipher_update_rows, cipher_work, generate_iv_rows, last_length, last_part, set_iv_rows, whole_text}
 pub use Rattle.store_model.specs.Ciphers.{CbcNoPadding, CbcPkcs7, Ctr, EcbNoPadding, Mode, deciphered, enciphered, is_ctr, iv_length, mode_of, plain_or_zeros}
-pub use Rattle.store_model.specs.Creation.{created, created_unless, file_rows, identified, new_id, new_key, recorded_of, room_for_key_rows, stated_bits_rows, stated_bytes}
+pub use Rattle.store_model.specs.Creation.{created, created_unless, identified, new_id, new_key, recorded_of, room_for_key_rows, stated_bits_rows, stated_bytes}
 pub use Rattle.store_model.specs.DerivationOperations.{DerivationStep, DerivationWork, GetCapacity, InputBytes, InputInteger, OutputBytes, SetCapacity, VerifyBytes, compared, derivation_step, derivation_work, derived, exhausted, info_step, input_bytes_rows, input_integer_rows, is_due, is_hkdf, is_info_due, is_salt_due, is_secret_due, next_derived, number_or_zero, output_key_rows, output_rows, salt_step, with_key, without}
 pub use Rattle.store_model.specs.Faults.{Corrupt, FaultMark, Hardware, Plain, Storage, is_of_fault}
 pub use Rattle.store_model.specs.HandleCalls.{Abort, AeadSetup, CipherSetup, DerivationSetup, HandleCall, HashSetup, InputKey, MacSetup, OnAead, OnCipher, OnDerivation, OnHash, OnMac, OutputKey, creation_of, derived_key, derived_key_of, handle_step, input_key, input_key_rows, is_setup, output_key, random_of, underived}
@@ -49,3 +49,7 @@ pub use Rattle.store_model.specs.Requests.{OnHandle, OnStore, Request, failed_st
 pub use Rattle.store_model.specs.Rules.{cipher_usage, class_rows, mac_usage, room_rows, use_rows}
 pub use Rattle.store_model.specs.Sound.{AliveByNumber, AreFoundKeys, HasNumber, IsChecked, IsSound, IsSoundCreation, IsSoundDerivation, IsSoundHeld, IsSoundKey, IsSoundOperation, IsSoundStore, IsSoundUse, IsSoundWork, IsVolatileOf, KeysStay, StartsSound, StaysSound, as_stated}
 pub use Rattle.store_model.specs.Store.{Key, KeyMap, OpenedKey, Settings, Store, count_persistent, found_from, has_secure_element, is_volatile, is_volatile_of, live_volatile, made_of, next_volatile, start_of}
+pub use Rattle.std.proofs.Math.ListN.{length-set}
+pub use Rattle.std.proofs.lemmas.List.{get_or-set_other, get_or-set_same, length-drop, length-take-le, set-get_or}
+pub use Rattle.std.specs.Ordering.{is_eq, is_lt, nat_cmp}
+pub use Rattle.std.specs.declared.cmp.Ordering.TheVariants.{Equal, Greater, Less}

@@ -1,7 +1,6 @@
 -- A derivation gives as many bytes as are asked for.
 use Rattle.std.proofs.Common.{Bool, List, None, Option, Some, [], ap, arith, cond, false, is_some, length, length-append, refl, suc, true, zero, ℕ, ◌*◌, ◌+◌, ◌-◌, ◌/◌, ◌==◌, ◌∙◌, ◌≡◌, ◌≤◌}
-use Rattle.store_model.proofs.Common.{DerivationWork, IsSoundDerivation, bytes_or_empty, derived, digest, expand, expand_block, expand_blocks, extract, hash_block_length, hash_length, is_hkdf, low_byte, next_derived, number_or_zero, pbkdf2, pbkdf2_block, pbkdf2_blocks, sha224, sha256}
-use Rattle.std.proofs.lemmas.List.{length-take-le, length-drop}
+use Rattle.store_model.proofs.Common.{bytes_or_empty, DerivationWork, derived, digest, expand, expand_block, expand_blocks, extract, hash_block_length, hash_length, is_hkdf, IsSoundDerivation, length-drop, length-take-le, low_byte, next_derived, number_or_zero, pbkdf2, pbkdf2_block, pbkdf2_blocks, sha224, sha256}
 use Rattle.sha2.specs.Sha512.{sha384, sha512}
 use Rattle.sha2.proofs.Facts256.{length-sha224, length-sha256}
 use Rattle.sha2.proofs.Facts512.{length-sha384, length-sha512}

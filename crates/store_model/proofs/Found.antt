@@ -1,10 +1,8 @@
 -- The keys that are there before a history count as made before it.
 use Rattle.std.proofs.Common.{Bool, List, None, Some, T, [], ap, arith, cond, false, length, refl, subst, sym, true, ℕ, ◌&&◌, ◌+◌, ◌<◌, ◌==◌, ◌∙◌, ◌∷◌, ◌≡◌}
-use Rattle.store_model.proofs.Common.{IsSoundStore, IsWithin-refl, Key, Made, NoneFoundAtStart, Store, creation_at, creation_from, found_made, nat_tests, origin_from, origin_of, start_of, unsigned_tied}
+use Rattle.store_model.proofs.Common.{creation_at, creation_from, Equal, found_made, Greater, is_eq, is_lt, IsSoundStore, IsWithin-refl, Key, Less, Made, nat_cmp, nat_tests, NoneFoundAtStart, origin_from, origin_of, start_of, Store, unsigned_tied}
 use Rattle.std.specs.Prelude.{map as each}
-use Rattle.std.specs.Ordering.{nat_cmp, is_eq, is_lt}
 use Rattle.std.specs.declared.cmp.Ordering.{Ordering}
-use Rattle.std.specs.declared.cmp.Ordering.TheVariants.{Less, Equal, Greater}
 use Rattle.std.specs.FinMap as map
 use Rattle.std.specs.FinMap.Entries.{below_all}
 use Rattle.store_model.proofs.Origin.{Tracks}

@@ -1,9 +1,7 @@
 -- How the number of live volatile keys of a caller changes.
 use Rattle.std.proofs.Common.{Bool, None, Option, Some, ap, arith, cond, false, is_some, refl, sym, true, ℕ, ◌+◌, ◌-◌, ◌==◌, ◌∙◌, ◌≡◌, ◌≤◌}
-use Rattle.store_model.proofs.Common.{nat_cmp_total, nat_tests, ranked, unsigned_tied}
-use Rattle.std.specs.Ordering.{nat_cmp}
+use Rattle.store_model.proofs.Common.{Equal, nat_cmp, nat_cmp_total, nat_tests, ranked, unsigned_tied}
 use Rattle.std.specs.FinMap.{FinMap, empty, get, insert, remove, retain_keys, contains_key, get-empty, len-empty, len, get-insert, get-remove, get-retain_keys, len-insert, len-remove, same_map, nat_cmp-IsAntisymmetric}
-use Rattle.std.specs.declared.cmp.Ordering.TheVariants.{Equal}
 
 both : {X : Type 0} (b c : Bool) (x y : Option X) → (b ≡ true → c ≡ true) → cond c (cond b x y) None ≡ cond b x (cond c y None)
 both true true x y h = refl

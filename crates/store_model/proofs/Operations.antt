@@ -1,8 +1,6 @@
 -- What becomes of each caller's own, and of each operation, where one is set.
 use Rattle.std.proofs.Common.{List, [], ap, arith, inl, inr, length, refl, replicate, slice_index_or, slice_set, subst, suc, sym, zero, ℕ, ◌+◌, ◌∙◌, ◌∷◌, ◌≡◌, ◌≤◌, ◌⊎◌}
-use Rattle.store_model.proofs.Common.{HandleOperation, Inactive, Own, Service, Store, new_own, operation_of, own_of, service_of, with_drawn, with_operation, with_own, words_used}
-use Rattle.std.proofs.lemmas.List.{get_or-set_other, set-get_or}
-use Rattle.std.proofs.Math.ListN.{length-set}
+use Rattle.store_model.proofs.Common.{get_or-set_other, HandleOperation, Inactive, length-set, new_own, operation_of, Own, own_of, Service, service_of, set-get_or, Store, with_drawn, with_operation, with_own, words_used}
 
 -- what is set is there, or the list has no such place, before and after
 set_or_not : {A : Type 0} (l : List A) (i : ℕ) (a d : A) → (slice_index_or (slice_set l i a) i d ≡ a) ⊎ ((slice_index_or (slice_set l i a) i d ≡ d) × (slice_index_or l i d ≡ d))

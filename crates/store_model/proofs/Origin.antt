@@ -1,7 +1,6 @@
 -- No chain of copies gains a flag or an algorithm.
 use Rattle.std.proofs.Common.{Bool, IfSome, List, None, Option, Some, [], ap, arith, cond, false, inl, inr, refl, subst, sym, true, ℕ, ◌++◌, ◌+◌, ◌<◌, ◌==◌, ◌∙◌, ◌∷◌, ◌≡◌, ◌⊎◌}
-use Rattle.store_model.proofs.Common.{Attributes, HasOrigin, IsFilled, IsSoundStore, IsWithin, IsWithin-implied, IsWithin-refl, IsWithin-trans, Key, Made, Policy, Reply, Request, Store, counted, created, creation_at, creation_from, destroyed, identified, is_volatile, key_answered, meet-within_source, meet_of, nat_tests, new_id, new_key, option_map_or, origin_from, origin_of, source_of, unless-ok, with_implied}
-use Rattle.std.specs.Ordering.{nat_cmp}
+use Rattle.store_model.proofs.Common.{Attributes, counted, created, creation_at, creation_from, destroyed, HasOrigin, identified, is_volatile, IsFilled, IsSoundStore, IsWithin, IsWithin-implied, IsWithin-refl, IsWithin-trans, Key, key_answered, Made, meet-within_source, meet_of, nat_cmp, nat_tests, new_id, new_key, option_map_or, origin_from, origin_of, Policy, Reply, Request, source_of, Store, unless-ok, with_implied}
 use Rattle.std.specs.FinMap as map
 use Rattle.store_model.proofs.StoreShape.{MakesNone, IsCopied}
 use Rattle.store_model.proofs.Sound.{put, taken, left}

@@ -1,7 +1,6 @@
 -- A request draws few words, and leaves other callers, other handles of its caller, the settings, and where it changes no key the store.
 use Rattle.std.proofs.Common.{Bool, List, Some, ap, cond, false, inl, inr, refl, slice_index_or, slice_set, sym, true, ℕ, ◌+◌, ◌∙◌, ◌≡◌, ◌≤◌, ◌⊎◌}
-use Rattle.store_model.proofs.Common.{Attributes, CountsOnce, DrawsFewWords, FaultMark, LeavesOtherCallers, LeavesOtherHandles, LeavesSettings, LeavesShared, Own, Request, Served, Service, Store, counted, created, destroyed, handle_of, is_volatile, made_of, may_change_keys, operation_of, own_of, serve, with_own}
-use Rattle.std.proofs.lemmas.List.{get_or-set_other}
+use Rattle.store_model.proofs.Common.{Attributes, counted, CountsOnce, created, destroyed, DrawsFewWords, FaultMark, get_or-set_other, handle_of, is_volatile, LeavesOtherCallers, LeavesOtherHandles, LeavesSettings, LeavesShared, made_of, may_change_keys, operation_of, Own, own_of, Request, serve, Served, Service, Store, with_own}
 use Rattle.store_model.proofs.Operations.{drawn_most, other_own, operations_same, other_handle}
 use Rattle.store_model.proofs.Served.{IsOwnAfter, SetsOne, request_shape}
 

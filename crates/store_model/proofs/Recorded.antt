@@ -1,6 +1,6 @@
 -- What a creation records, and its refusals.
-use Rattle.std.proofs.Common.{Bool, Err, IfOk, List, None, Ok, Result, [], ap, arith, cond, false, nat_le, not, refl, subst, sym, true, ℕ, ◌&&◌, ◌==◌, ◌∙◌, ◌∷◌, ◌≡◌, ◌≤◌}
-use Rattle.store_model.proofs.Common.{Aes256, AlreadyExists, Attributes, InsufficientStorage, InvalidArgument, IsWithin, IsWithin-refl, IsWithin-trans, Keep, KeyLimit, Label, NoCopy, NoEcb, NoExport, NotPermitted, NotSupported, Refuse, Rows, Status, Store, Verdict, after_rules, after_verdict, attribute_rows, checked, file_rows, filled, first_row, has_secure_element, is_volatile, narrowed, nat_tests, permits_size, recorded_of, room_for_key_rows, unless, unless-err, unless-ok, with_implied}
+use Rattle.std.proofs.Common.{Bool, Err, IfOk, List, None, Ok, Result, [], arith, cond, false, nat_le, not, refl, subst, sym, true, ℕ, ◌&&◌, ◌==◌, ◌∷◌, ◌≡◌, ◌≤◌}
+use Rattle.store_model.proofs.Common.{Aes256, AlreadyExists, Attributes, InsufficientStorage, InvalidArgument, IsWithin, IsWithin-refl, IsWithin-trans, Keep, KeyLimit, Label, NoCopy, NoEcb, NoExport, NotPermitted, NotSupported, Refuse, Rows, Status, Store, Verdict, after_rules, after_verdict, attribute_rows, checked, filled, first_row, has_secure_element, is_volatile, narrowed, nat_tests, permits_size, recorded_of, room_for_key_rows, unless, unless-err, unless-ok, with_implied}
 use Rattle.psa_status.specs.Rows.{◌>>=◌}
 use Rattle.policy_rules.proofs.Rules.{narrowed-within}
 use Rattle.store_model.proofs.Filled.{filled-checked, only_usage-checked}
@@ -86,29 +86,25 @@ pub recorded : (store : Store) (caller : ℕ) (a : Attributes) (n : ℕ) (kept :
 recorded store caller a n kept e =
     let driver = has_secure_element store in
     let labels = store.settings.labels in
-    let one = then_ok (unless (first_row (file_rows store a)) a) _ kept e in
-    let stated : a ≡ one.0 = (unless-ok (first_row (file_rows store a)) a one.0 one.1.0).1 in
-    let two = then_ok (checked one.0 n driver) _ kept one.1.1 in
-    let passed = unless-ok (first_row (attribute_rows one.0 n driver)) (filled one.0 n) two.0 two.1.0 in
-    let three = then_ok (after_rules labels two.0) _ kept two.1.1 in
-    let last = unless-ok (first_row (room_for_key_rows store caller three.0)) three.0 kept three.1.1 in
-    let narrows : Narrows n driver two.0 three.0 = subst (λ r. IfOk r (Narrows n driver two.0)) three.1.0 (rules_narrow n driver labels two.0) in
-    let checks : checked two.0 n driver ≡ Ok two.0 = subst (λ x. checked x n driver ≡ Ok x) passed.1 (filled-checked one.0 n driver passed.0) in
-    let from : two.0 ≡ filled a n = sym passed.1 ∙ ap (λ x. filled x n) (sym stated) in
+    let one = then_ok (checked a n driver) _ kept e in
+    let passed = unless-ok (first_row (attribute_rows a n driver)) (filled a n) one.0 one.1.0 in
+    let two = then_ok (after_rules labels one.0) _ kept one.1.1 in
+    let last = unless-ok (first_row (room_for_key_rows store caller two.0)) two.0 kept two.1.1 in
+    let narrows : Narrows n driver one.0 two.0 = subst (λ r. IfOk r (Narrows n driver one.0)) two.1.0 (rules_narrow n driver labels one.0) in
+    let checks : checked one.0 n driver ≡ Ok one.0 = subst (λ x. checked x n driver ≡ Ok x) passed.1 (filled-checked a n driver passed.0) in
     subst (IsRecorded store caller a n) last.1 (record {
-      may = record { checks = narrows.checks checks; room = last.0; rules = rules_obeyed labels two.0 three.0 three.1.0 };
-      within = subst (λ (x : Attributes). IsWithin three.0.policy x.policy) from narrows.policy;
+      may = record { checks = narrows.checks checks; room = last.0; rules = rules_obeyed labels one.0 two.0 two.1.0 };
+      within = subst (λ (x : Attributes). IsWithin two.0.policy x.policy) (sym passed.1) narrows.policy;
     })
 
 -- the refusals of a creation
 pub recorded_refused : (P : Status → Type 0) → P NotSupported → P InvalidArgument → P NotPermitted → P KeyLimit → P AlreadyExists → P InsufficientStorage →
     (store : Store) (caller : ℕ) (a : Attributes) (n : ℕ) → OfRefusals P (recorded_of store caller a n)
 recorded_refused P unsupported invalid refused limit exists full store caller a n =
-    then_refused P (unless (first_row (file_rows store a)) a) _ (unless_refused P (file_rows store a) a (λ on. unsupported, tt)) (λ stated.
-    then_refused P (checked stated n (has_secure_element store)) _
-    (unless_refused P (attribute_rows stated n (has_secure_element store)) (filled stated n) (λ on. unsupported, (λ on. invalid, (λ on. invalid, (λ on. unsupported, (λ on. invalid, (λ on. invalid, tt)))))))
+    then_refused P (checked a n (has_secure_element store)) _
+    (unless_refused P (attribute_rows a n (has_secure_element store)) (filled a n) (λ on. unsupported, (λ on. invalid, (λ on. invalid, (λ on. unsupported, (λ on. invalid, (λ on. invalid, tt)))))))
     (λ filled_in. then_refused P (after_rules store.settings.labels filled_in) _ (rules_refused P refused store.settings.labels filled_in)
-    (λ kept. unless_refused P (room_for_key_rows store caller kept) kept (λ on. limit, (λ on. exists, (λ on. full, tt))))))
+    (λ kept. unless_refused P (room_for_key_rows store caller kept) kept (λ on. limit, (λ on. exists, (λ on. full, tt)))))
 
 -- WHAT CHECKED ATTRIBUTES HAVE
 

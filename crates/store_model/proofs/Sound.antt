@@ -1,10 +1,7 @@
 -- Each call on the store keeps it sound.
 use Rattle.std.proofs.Common.{Bool, List, None, Ok, Option, Some, ap, arith, cond, false, is_some, length, nat_le, nat_lt, not, refl, slice_index_or, slice_set, subst, sym, true, ℕ, ◌&&◌, ◌*◌, ◌+◌, ◌/◌, ◌<◌, ◌==◌, ◌^◌, ◌||◌, ◌∙◌, ◌≡◌, ◌≤◌}
-use Rattle.store_model.proofs.Common.{Attributes, IsSoundKey, IsSoundStore, IsVolatileOf, Key, Store, as_stated, checked, count_persistent, counted, created, destroyed, first_row, has_secure_element, identified, is_volatile, is_volatile_of, live_volatile, made_of, nat_cmp_total, nat_tests, new_id, new_key, next_volatile, room_for_key_rows, unsigned_tied}
-use Rattle.std.specs.Ordering.{nat_cmp}
+use Rattle.store_model.proofs.Common.{as_stated, Attributes, checked, count_persistent, counted, created, destroyed, first_row, get_or-set_other, get_or-set_same, has_secure_element, identified, is_volatile, is_volatile_of, IsSoundKey, IsSoundStore, IsVolatileOf, Key, length-set, live_volatile, made_of, nat_cmp, nat_cmp_total, nat_tests, new_id, new_key, next_volatile, room_for_key_rows, Store, unsigned_tied}
 use Rattle.std.specs.FinMap as map
-use Rattle.std.proofs.lemmas.List.{get_or-set_same, get_or-set_other}
-use Rattle.std.proofs.Math.ListN.{length-set}
 use Rattle.store_model.proofs.Tables.{none_holds}
 use Rattle.store_model.proofs.Recorded.{MayBeKept, IsStated, stated_id}
 use Rattle.store_model.proofs.Live.{len_kept-insert, len_kept-remove}

@@ -1,7 +1,6 @@
 -- The keys that an opening finds make a sound store.
 use Rattle.std.proofs.Common.{Bool, List, None, Some, [], ap, arith, cond, false, find, length, nat_lt, refl, replicate, slice_index_or, subst, suc, sym, true, zero, ℕ, ◌+◌, ◌<◌, ◌==◌, ◌∙◌, ◌∷◌, ◌≡◌, ◌≤◌}
-use Rattle.store_model.proofs.Common.{AreFoundKeys, IsChecked, IsSoundStore, Key, OpenedKey, Settings, Store, found_from, has_secure_element, is_volatile, is_volatile_of, nat_tests, start_of}
-use Rattle.std.specs.Ordering.{nat_cmp}
+use Rattle.store_model.proofs.Common.{AreFoundKeys, found_from, has_secure_element, is_volatile, is_volatile_of, IsChecked, IsSoundStore, Key, nat_cmp, nat_tests, OpenedKey, Settings, start_of, Store}
 use Rattle.std.specs.FinMap as map
 use Rattle.store_model.proofs.Sound.{put, put_apart, low_id, of_volatile}
 use Rattle.store_model.proofs.Live.{len_kept-insert, len_kept-empty}

@@ -1,7 +1,6 @@
 -- The shape of any call on the store: it is counted alone, or creates a key, or destroys one.
 use Rattle.std.proofs.Common.{Bool, Err, List, None, Ok, Option, Result, Some, ap, arith, bytes_eq, cond, drop, false, inl, inr, length, ok_or, refl, subst, sym, take, true, ℕ, ◌++◌, ◌-◌, ◌∙◌, ◌≡◌, ◌≤◌, ◌⊎◌}
-use Rattle.store_model.proofs.Common.{AeadDecrypt, AeadEncrypt, Attributes, Call, CipherDecrypt, CipherEncrypt, Class, Computed, Copy, Ctr, Destroy, Export, Generate, GetAttributes, HashCompare, HashCompute, Import, InvalidArgument, InvalidHandle, InvalidPadding, InvalidSignature, IsWithin, Key, MacCompute, MacVerify, Mode, OnStore, Outcome, Request, Policy, Purge, Reply, Status, Store, Success, attributes_reply, bytes_of_key, computed_unless, counted, created, created_unless, decided, deciphered, destroy_rows, destroyed, done, enciphered, export_rows, first_row, given, has_secure_element, hash_of, is_ctr, is_of_fault, iv_length, key_answered, mac_of, may_change_keys, meet_of, mode_of, plain_or_zeros, purge_reply, recorded_of, refusal, refused, replies, reply_unless, source_of, spoiled, spoils, stated_bits_rows, stated_bytes, tag_bytes, unless, unless-ok, use_rows, with_computed, with_implied}
-use Rattle.std.specs.Option.{option_map}
+use Rattle.store_model.proofs.Common.{AeadDecrypt, AeadEncrypt, Attributes, attributes_reply, bytes_of_key, Call, CipherDecrypt, CipherEncrypt, Class, Computed, computed_unless, Copy, counted, created, created_unless, Ctr, decided, deciphered, Destroy, destroy_rows, destroyed, done, enciphered, Export, export_rows, first_row, Generate, GetAttributes, given, has_secure_element, hash_of, HashCompare, HashCompute, Import, InvalidArgument, InvalidHandle, InvalidPadding, InvalidSignature, is_ctr, is_of_fault, IsWithin, iv_length, Key, key_answered, mac_of, MacCompute, MacVerify, may_change_keys, meet_of, Mode, mode_of, OnStore, option_map, Outcome, plain_or_zeros, Policy, Purge, purge_reply, recorded_of, refusal, refused, replies, Reply, reply_unless, Request, source_of, spoiled, spoils, stated_bits_rows, stated_bytes, Status, Store, Success, tag_bytes, unless, unless-ok, use_rows, with_computed, with_implied}
 use Rattle.std.specs.FinMap as map
 use Rattle.store_model.specs.Draws.{Random}
 use Rattle.store_model.specs.Copies.{source_rows, copy_attributes, recorded_copy}

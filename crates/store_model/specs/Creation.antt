@@ -1,11 +1,7 @@
 -- Calls that create a key.
 use Rattle.std.specs.Prelude.{ℕ, ◌+◌, ◌/◌, ◌%◌, ◌^◌, not, nat_le, ◌==◌, ◌||◌, ◌&&◌, List, [], ◌∷◌, length, slice_set, is_some, Result, Ok, Err, if◌then◌else◌}
 use Rattle.std.specs.FinMap as map
-use Rattle.store_model.specs.Common.{AlreadyExists, Attributes, Identifier, InsufficientStorage, InvalidArgument, Key, KeyLimit, NotSupported, Outcome, Rows, Status, Store, Success, after_rules, checked, count_persistent, counted, first_row, has_secure_element, is_volatile, live_volatile, made_of, next_volatile, refused, unless, ◌>>=◌}
-
--- a key is kept where there is a file
-abbrev pub file_rows : Store → Attributes → Rows
-file_rows store a = (not (is_volatile a || store.settings.has_file), NotSupported) ∷ []
+use Rattle.store_model.specs.Common.{AlreadyExists, Attributes, Identifier, InsufficientStorage, InvalidArgument, Key, KeyLimit, Outcome, Rows, Status, Store, Success, after_rules, checked, count_persistent, counted, first_row, has_secure_element, is_volatile, live_volatile, made_of, next_volatile, refused, unless, ◌>>=◌}
 
 -- a caller has at most 16 live volatile keys, and makes at most 2^20; persistent keys are at most 512, with an identifier each
 abbrev pub room_for_key_rows : Store → ℕ → Attributes → Rows
@@ -19,8 +15,7 @@ room_for_key_rows store caller a =
 -- are checked, and filled in, each rule narrows them in turn, and the store has room.
 abbrev pub recorded_of : Store → ℕ → Attributes → ℕ → Result Attributes Status
 recorded_of store caller a bytes = do
-  stated ← unless (first_row (file_rows store a)) a
-  filled ← checked stated bytes (has_secure_element store)
+  filled ← checked a bytes (has_secure_element store)
   kept ← after_rules store.settings.labels filled
   unless (first_row (room_for_key_rows store caller kept)) kept
 

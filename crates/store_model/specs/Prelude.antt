@@ -6,7 +6,7 @@ pub use Rattle.store_model.specs.Outcome.{Computed, Outcome, computed_unless, co
 pub use Rattle.store_model.specs.Draws.{Random}
 pub use Rattle.store_model.specs.Algorithms.{cmac_base, digest, hash_block_length, hash_length_of, hash_of, is_hmac, low_byte, mac_of, tag_bytes, whole_mac}
 pub use Rattle.store_model.specs.Rules.{cipher_usage, class_number, class_rows, fits_type, is_of_class, mac_usage, room_rows, total_limit, use_rows}
-pub use Rattle.store_model.specs.Creation.{created, created_unless, file_rows, identified, made_with, new_id, new_key, recorded_of, room_for_key_rows, stated_bits_rows}
+pub use Rattle.store_model.specs.Creation.{created, created_unless, identified, made_with, new_id, new_key, recorded_of, room_for_key_rows, stated_bits_rows}
 pub use Rattle.store_model.specs.Copies.{copy_attributes, differs, recorded_copy, source_rows, step_copy}
 pub use Rattle.store_model.specs.Generation.{generated, generation_of}
 pub use Rattle.store_model.specs.KeyUse.{attributes_reply, bytes_of_key, destroy_rows, destroyed, export_reply, export_rows, purge_reply, step_destroy}

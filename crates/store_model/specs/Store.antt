@@ -18,12 +18,11 @@ pub record Key : Type 0 where
 abbrev pub KeyMap : Type 0
 KeyMap = map.FinMap nat_cmp Key
 
--- what never changes: the seed, the labels of the rules in their order, the locations with a driver, and whether a file keeps keys
+-- what never changes: the seed, the labels of the rules in their order, and the locations with a driver
 pub record Settings : Type 0 where
   pub seed : List ℕ
   pub labels : List Label
   pub locations : List ℕ
-  pub has_file : Bool
 
 -- the store, which all callers share: its keys by their identifiers, how many volatile keys each caller has made, by
 -- the caller's number (0 is nobody's), the calls so far, how many keys were found at opening, and what never changes

@@ -1,6 +1,5 @@
 use Rattle.std.proofs.Common.{[], ap, ap₂, arith, flat_map, get_or, subst, sym, take, ◌++◌, ◌+◌, ◌∙◌, ◌∷◌}
-use Rattle.line_generator.proofs.Common.{Holds256, flat_map-append, sum_by_more, take_more}
-use Rattle.std.proofs.lemmas.List.{append-nil}
+use Rattle.line_generator.proofs.Common.{append-nil, flat_map-append, Holds256, sum_by_more, take_more}
 use Rattle.script_lang.specs.declared.replies.Replies.{Replies}
 use Rattle.line_generator.proofs.summary.total_of.Goals as goal
 
