@@ -1,8 +1,10 @@
-// What the program runs over: a reader, a writer and a file. They tell no contents.
+// What the program runs over: a reader, a writer and a file. They tell no contents; a read gives what the reader gave, and a
+// write is what the writer took.
 ghost use Rattle.std.specs.Prelude.{◌≡◌, None, ⊤, IfOk, OnErr, IsErr, Ok};
 ghost use Rattle.std.specs.Io.{ReadsAtMost, WritesAtMost};
+ghost use Rattle.std.specs.Io.KnownBytes.{ReadConsumes, WriteAppends};
 ghost use Rattle.psa_status.specs.Causes.{HasCause};
-ghost use Rattle.outside_io.specs.Causes.{Progresses};
+ghost use Rattle.outside_io.specs.Causes.{Progresses, Takes, TellsAsBefore};
 
 use disk_face::Disk;
 use outside_io::{Sink, Source};
@@ -20,7 +22,8 @@ pub struct Reading<R> {
 impl<R> Reading<R> {
     /// A source that has not failed yet.
     pub fn new(inner: R) -> Reading<R>
-        ensures { result.faults ≡ 0 }
+        ensures reader { result.inner ≡ inner }
+        ensures faults { result.faults ≡ 0 }
     {
         Reading { inner, faults: 0 }
     }
@@ -28,7 +31,8 @@ impl<R> Reading<R> {
 
 /// One read, made again where a signal interrupts it.
 fn read_some<R: Read>(reader: &mut R, buffer: &mut [u8]) -> io::Result<usize>
-    ensures { ReadsAtMost result buffer.new }
+    ensures bound { ReadsAtMost result buffer.new }
+    ensures reader { ReadConsumes (R.remaining reader.old) (R.remaining reader.new) result buffer.new }
 {
     for _ in 0..u64::MAX {
         match reader.read(buffer) {
@@ -48,7 +52,13 @@ impl<R: Read> Source for Reading<R> {
 
     ghost faults = { λ s. s.faults };
 
-    fn read(&mut self, buffer: &mut [u8]) -> Result<usize, Failed> {
+    fn read(&mut self, buffer: &mut [u8]) -> Result<usize, Failed>
+        ensures bound { ReadsAtMost result buffer.new }
+        ensures bytes { ReadConsumes None None result buffer.new }
+        ensures tells { TellsAsBefore None None }
+        ensures cause { HasCause self.old.faults self.new.faults result }
+        ensures reader { ReadConsumes (R.remaining self.old.inner) (R.remaining self.new.inner) result buffer.new }
+    {
         match read_some(&mut self.inner, buffer) {
             Ok(count) => Ok(count),
             Err(_) => {
@@ -69,7 +79,8 @@ pub struct Writing<W> {
 impl<W> Writing<W> {
     /// A sink that has not failed yet.
     pub fn new(inner: W) -> Writing<W>
-        ensures { result.faults ≡ 0 }
+        ensures writer { result.inner ≡ inner }
+        ensures faults { result.faults ≡ 0 }
     {
         Writing { inner, faults: 0 }
     }
@@ -79,6 +90,7 @@ impl<W> Writing<W> {
 fn write_some<W: Write>(writer: &mut W, piece: &[u8]) -> io::Result<usize>
     ensures bound { WritesAtMost result piece.now }
     ensures progress { Progresses result piece.now }
+    ensures writer { WriteAppends (W.contents writer.old) (W.contents writer.new) result piece.now }
 {
     for _ in 0..u64::MAX {
         match writer.write(piece) {
@@ -103,7 +115,14 @@ impl<W: Write> Sink for Writing<W> {
 
     ghost faults = { λ s. s.faults };
 
-    fn write(&mut self, piece: &[u8]) -> Result<usize, Failed> {
+    fn write(&mut self, piece: &[u8]) -> Result<usize, Failed>
+        ensures bound { WritesAtMost result piece.now }
+        ensures progress { Progresses result piece.now }
+        ensures bytes { Takes None None result piece.now }
+        ensures tells { TellsAsBefore None None }
+        ensures cause { HasCause self.old.faults self.new.faults result }
+        ensures writer { WriteAppends (W.contents self.old.inner) (W.contents self.new.inner) result piece.now }
+    {
         match write_some(&mut self.inner, piece) {
             Ok(count) => Ok(count),
             Err(_) => {
