@@ -1,5 +1,5 @@
 -- What the body of a key's cell has in its parts.
-use Rattle.key_cells.proofs.Common.{Attributes, FoundKey, HoldsKey, HoldsNoKey, IsKept, IsKeyOf, IsLength, IsNoLength, IsNoRecord, IsPersistent, IsRecord, List, None, Ok, Option, Some, ap, arith, body_of, drop, drop-drop, drop-replicate, drop-take, drop_at, front_of, length, length-drop, length-replicate, length-take, refl, replicate, spelling, subst, sym, take, take-append-drop, take_all, take_at, written, ℕ, ⊎_elim, ◌*◌, ◌++◌, ◌+◌, ◌-◌, ◌<◌, ◌^◌, ◌∙◌, ◌≡◌, ◌≤◌}
+use Rattle.key_cells.proofs.Common.{Attributes, HasKeyUpTo, HoldsKey, HoldsNoKey, IsKept, IsKeyOf, IsLength, IsNoLength, IsNoRecord, IsPersistent, IsRecord, List, None, Ok, Option, Some, ap, arith, body_of, drop, drop-drop, drop-replicate, drop-take, drop_at, front_of, length, length-drop, length-replicate, length-take, refl, replicate, spelling, subst, sym, take, take-append-drop, take_all, take_at, written, ℕ, ⊎_elim, ◌*◌, ◌++◌, ◌+◌, ◌-◌, ◌<◌, ◌^◌, ◌∙◌, ◌≡◌, ◌≤◌}
 use Rattle.std.specs.Int.{w16, w32, from_le_bytes}
 use Rattle.std.proofs.lemmas.Nat.{from_le_bytes-to_le_bytes_2, from_le_bytes-to_le_bytes_4}
 use Rattle.psa_status.specs.declared.Status.{Status}
@@ -95,7 +95,7 @@ module _ (cell head : List ℕ) (head_is : head ≡ take 36 (drop 16 cell)) wher
     -- all parts are those of a key
     pub key_found : (id start : ℕ) (b : Attributes) → length cell ≡ 1088 → IsPersistent id → take 15 (drop 1 cell) ≡ front_of id
         → IsRecord b start (take total (drop 16 cell)) → drop (16 + total) cell ≡ replicate (length (drop (16 + total) cell)) 0
-        → FoundKey (record b { id = record { 0 = id } }) (16 + total) cell
+        → HasKeyUpTo (record b { id = record { 0 = id } }) (16 + total) cell
     key_found id start b size named front r zeros = record {
       above = omega (arith, total_is.total);
       below = omega (arith, total_is.total, total_is.short);

@@ -1,7 +1,6 @@
 -- A destruction, of what its steps do: the cells in doubt are closed, and then the key's own.
-use Rattle.key_cells.proofs.Common.{Absent, Content, Doubtful, Free, KeepsContents, List, Moves, Present, CellState, StandsForContents, StaysFree, Unsure, ap, arith, cell_state, cells, content_at, get_or-map, get_or-set_same, is_open, length, refl, set, set-set, settled, settled_content, settled_state, settled_states, true, ℕ, ◌<◌, ◌∙◌, ◌≡◌}
+use Rattle.key_cells.proofs.Common.{Absent, ap, arith, cell_state, Cells, cells, CellState, Content, content_at, Doubtful, Free, get_or-map, get_or-set_same, is_open, KeepsContents, length, List, Moves, Present, refl, set, set-set, settled, settled_content, settled_state, settled_states, StandsForContents, StaysFree, true, Unsure, ℕ, ◌<◌, ◌∙◌, ◌≡◌}
 use Rattle.disk_face.specs.declared.Disk as Disk
-use Rattle.key_cells.specs.declared.cells.Cells.{Cells}
 use Rattle.key_cells.proofs.Counts.{count_same}
 use Rattle.key_cells.proofs.Moves.{close_begins, close_done, doubt_after, fill_failed, moves_after_settled, moves_settled, still_open}
 use Rattle.key_cells.proofs.Free.{FreeToo, free_set, free_set_after, not_free_as, open_not_free, stays_free_both, stays_free_set}

@@ -1,7 +1,6 @@
 -- A creation, of what its steps do: the cells in doubt are closed, and then the first that has no key is filled.
-use Rattle.key_cells.proofs.Common.{Absent, Content, Doubtful, Free, IfSome, IsFirstWithoutKey, KeepsContents, List, Moves, Present, Shut, CellState, StandsForContents, StaysFree, StaysFreeBut, ap, arith, cases_eq, cell_state, cells, content_at, get_or-map, get_or-set_same, inl, inr, length, refl, set, settled, settled_state, settled_states, subst, sym, ℕ, ⊎_elim, ◌<◌, ◌∙◌, ◌≡◌, ◌≢◌}
+use Rattle.key_cells.proofs.Common.{Absent, ap, arith, cases_eq, cell_state, Cells, cells, CellState, Content, content_at, Doubtful, Free, get_or-map, get_or-set_same, IfSome, inl, inr, IsFirstWithoutKey, KeepsContents, length, List, Moves, Present, refl, set, settled, settled_state, settled_states, Shut, StandsForContents, StaysFree, StaysFreeBut, subst, sym, ℕ, ⊎_elim, ◌<◌, ◌∙◌, ◌≡◌, ◌≢◌}
 use Rattle.disk_face.specs.declared.Disk as Disk
-use Rattle.key_cells.specs.declared.cells.Cells.{Cells}
 use Rattle.key_cells.specs.Calls.{ChangesCell}
 use Rattle.key_cells.proofs.Free.{FreeToo, free_set, free_set_after, not_free_as}
 use Rattle.key_cells.proofs.Moves.{fill_begins, fill_done, fill_failed, free_absent, moves_both, moves_after_settled, moves_settled, settled_free}

@@ -1,17 +1,11 @@
 -- What the states are that an opening reads, one cell after the other.
-use Rattle.key_cells.proofs.Common.{Bool, DamagedCell, Free, GivesPart, HasNoKey, HasOneEach, HoldsId, HoldsNoKey, IfSome, IsBadCell, IsOpenFaultOf, IsDamaged, IsNamed, IsNumbered, IsPersistent, IsStoreFile, List, None, Open, Option, Reads, ReadsBelow, ReadsCell, Shut, CellState, Some, Unsure, [], ap, arith, body, cases_eq, cell_state, closed, cond, count_by, count_by_more_no, count_by_more_yes, creation_of_state, drop, false, gate, get_or, get_or-set_other, get_or-set_same, get_or-take, has_id, identifier_in, inl, inr, is_open, length, length-set, length-take, opened_gate, refl, set, subst, sym, take, take-set-le, true, zeros, ℕ, ⊎_elim, ◌*◌, ◌+◌, ◌<◌, ◌∙◌, ◌∷◌, ◌≡◌, ◌≢◌, ◌≤◌}
-use Rattle.std.proofs.lemmas.Bool.{eq-eqb, eqb-true}
+use Rattle.key_cells.proofs.Common.{[], ap, arith, body, Bool, cases_eq, cell_state, CellState, closed, cond, count_by, count_by_more_no, count_by_more_yes, creation_of_state, DamagedCell, drop, eq-eqb, eqb-true, false, Free, gate, get_or, get_or-set_other, get_or-set_same, get_or-take, GivesPart, has_id, HasNoKey, HasOneEach, HoldsId, HoldsNoKey, identifier_in, IfSome, inl, inr, is_open, IsBadCell, IsDamaged, IsNamed, IsNumbered, IsOpenFaultOf, IsPersistent, IsStoreFile, length, length-set, length-take, List, None, Open, opened_gate, Option, Reads, ReadsBelow, refl, set, Shut, Some, subst, sym, take, take-set-le, true, Unsure, ℕ, ⊎_elim, ◌*◌, ◌+◌, ◌<◌, ◌∙◌, ◌∷◌, ◌≡◌, ◌≢◌, ◌≤◌}
 use Rattle.key_cells.proofs.Bodies.{parts_of}
 use Rattle.key_cells.proofs.CellsRead.{gate_read, body_read}
 
-pub free_read : (bytes : List ℕ) (before : List CellState) (found : ℕ) → length bytes ≡ 1088 → get_or bytes 0 0 ≡ 0 → drop 1 bytes ≡ zeros → ReadsCell Free bytes before found
-free_read [] before found size first rest = absurd (omega arith)
-free_read (x ∷ xs) before found size first rest = record {
-  reads = (ap (λ (y : ℕ). y ∷ []) first, rest);
-  new = λ id has. cc;
-  numbered = λ open_now. cc;
-  named = λ id has. cc;
-}
+pub gate_closed : (bytes : List ℕ) → length bytes ≡ 1088 → get_or bytes 0 0 ≡ 0 → take 1 bytes ≡ closed
+gate_closed [] size first = absurd (omega arith)
+gate_closed (x ∷ xs) size first = ap (λ (y : ℕ). y ∷ []) first
 
 -- one cell more is read
 pub reads_more : (told : Option (List ℕ)) (count : ℕ) (states : List CellState) (state : CellState) (bytes : List ℕ) → count < length states → IfSome told (λ image. ReadsBelow count states image)
@@ -93,8 +87,8 @@ id_of id body h = (parts_of h.0 h.1 body h.2).id ∙ h.3
 open_read : (state : CellState) (gate body : List ℕ) → Reads state gate body → gate ≡ opened_gate → (id : ℕ) × HoldsId id body × (has_id id state ≡ true)
 open_read Free gate body r is = absurd (let e : closed ≡ opened_gate = sym r.0 ∙ is in cc)
 open_read (Open id creation) gate body r is = (id, r.1, eq-eqb id id refl)
-open_read Shut gate body r is = absurd (let e : closed ≡ opened_gate = sym r ∙ is in cc)
-open_read Unsure gate body r is = absurd (r is)
+open_read Shut gate body r is = absurd (let e : closed ≡ opened_gate = sym r.0 ∙ is in cc)
+open_read Unsure gate body r is = absurd (r.0 is)
 
 -- what was read isn't damaged
 pub not_damaged : (count : ℕ) (states : List CellState) (image : List ℕ) → ReadsBelow count states image → HasOneEach count states → (cell : ℕ) → cell < count → IsDamaged image cell → ⊥

@@ -1,13 +1,23 @@
 -- How the parts of an opening follow one another.
-use Rattle.key_cells.proofs.Common.{Absent, Bool, Clearing, Content, Disk, Elapses, Finds, Free, HasOneEach, IfSome, IsOpenFaultOf, IsImageDirectory, IsDisk, IsFoundIn, IsNamed, IsNumbered, IsRefusal, IsStoreFile, LeavesWhatIsRead, List, NoNewImage, None, NotAStore, Open, Option, Present, Reads, ReadsBelow, Shut, CellState, Some, SoundBy, Spares, SparesOpen, StandsForContents, StillTells, Unsure, Within, WithinSpares, [], ap, arith, body, cell_state, cells, closed, cond, content_of, contents_of, count_by, creation_of_state, false, found_in, gate, get_or, get_or-map, get_or-replicate, has_id, inl, inr, is_open, is_some, length, length-map, map, nil_from_length, opened_gate, refl, replicate, settled_state, settled_states, subst, sum_by-cons, sym, take, take-map, true, within_both, within_none, within_one, ℕ, ⊎_elim, ◌+◌, ◌<◌, ◌==◌, ◌∙◌, ◌∷◌, ◌≡◌, ◌≢◌, ◌≤◌, ◌⊎◌}
+use Rattle.key_cells.proofs.Common.{[], Absent, ap, arith, body, Bool, Calm, cell_state, cells, CellState, Clearing, closed, cond, Content, content_of, contents_of, count_by, creation_of_state, Disk, drop-replicate, Elapses, false, Finds, found_in, Free, gate, get_or, get_or-map, get_or-replicate, has_id, HasNoOpenCell, HasOneEach, HoldsSinceSync, IfSome, inl, inr, is_open, is_opened, is_some, IsBlankSinceSync, IsDisk, IsFoundIn, IsImageDirectory, IsNamed, IsNumbered, IsOpened, IsOpenFaultOf, IsOpeningRefused, IsRefusal, IsStoreFile, LeavesWhatIsRead, length, length-map, List, map, nil_from_length, None, NoNewImage, NotAStore, Open, opened_gate, Option, place, Present, Reads, ReadsBelow, refl, replicate, settled_state, settled_states, Shut, Some, SoundBy, Spares, SparesOpen, SparesSinceSync, SparesStore, StandsForContents, StillTells, subst, sum_by-cons, sym, take, take-map, true, Unsure, Within, within_both, within_none, within_one, WithinSpares, WritesItsOwn, zeros, ℕ, ⊎_elim, ◌+◌, ◌-◌, ◌<◌, ◌∙◌, ◌∷◌, ◌≡◌, ◌≢◌, ◌≤◌, ◌⊎◌}
 use Rattle.disk_face.specs.declared.Disk as Disk
-use Rattle.std.proofs.lemmas.Bool.{eqb-true}
+use Rattle.std.proofs.Common.{ne_eqb, suc, zero}
+unfoldable use Rattle.key_cells.specs.Layout.{blank_store}
 use Rattle.psa_status.specs.Causes.{Rose}
 use Rattle.key_cells.specs.declared.reading.OpenFault.{OpenFault}
-use Rattle.key_cells.specs.Opened.{Calm, IsOpened, IsOpeningRefused}
 use Rattle.key_cells.proofs.CellsRead.{content_there, for_told, length-contents_of, some_weaker}
 use Rattle.key_cells.proofs.Finding.{not_damaged}
 use Rattle.key_cells.proofs.Moves.{settled_alike, settled_open}
+
+pub no_open_zeros : (n : ℕ) → HasNoOpenCell (replicate n 0)
+no_open_zeros n cell lt is = by (n - place cell) (ap (take 1) (sym (drop-replicate (place cell) n 0)) ∙ is)
+  where
+    by : (m : ℕ) → take 1 (replicate m 0) ≡ opened_gate → ⊥
+    by zero e = cc
+    by (suc m) e = cc
+
+spares_itself : (image : List ℕ) → IsStoreFile image → SparesStore image image
+spares_itself image store = record { store = store; open_cells = λ cell lt is. (is, refl); shut = λ cell lt is. is; zeros = λ cell lt zeros. zeros }
 
 module _ {D : Type 0} (disks : Disk.Ghosts D) where
   -- calls that write nothing
@@ -33,6 +43,32 @@ module _ {D : Type 0} (disks : Disk.Ghosts D) where
   spares_calm : (old new : D) → Calm disks old new → (image : List ℕ) → WithinSpares (disks.moment old) (disks.moment new) (disks.left_since old) (disks.left_since new) (disks.may_leave old) image
   spares_calm old new calm image = record { later = calm.within.later; each = λ t other le left. ⊎_elim (λ past. inl past) (λ h. inr (inl h)) (calm.within.each t other le left) }
 
+  since_after : (a b c : D) (bytes : List ℕ) (P : List ℕ → Type 0) → Calm disks a b → HoldsSinceSync disks b c bytes P → HoldsSinceSync disks a c bytes P
+  since_after a b c bytes P calm h = record { synced = h.synced; told = h.told; only = h.only; began = omega (arith, calm.within.later, h.began); later = h.later; each = h.each }
+
+  wrote_after : (a b c : D) (image : List ℕ) → Calm disks a b → WritesItsOwn disks b c image → WritesItsOwn disks a c image
+  wrote_after a b c image calm wrote =
+      ⊎_elim
+      (λ none. inl (calm_both a b c calm none))
+      (λ some. inr (⊎_elim
+      (λ store. inl (store.0, since_after a b c image (SparesStore image) calm store.1))
+      (λ file. inr (file.0, ⊎_elim (λ read. inl read) (λ blank. inr (since_after a b c blank_store HasNoOpenCell calm blank)) file.1))
+      some))
+      wrote
+
+  -- since a sync each image is what was read then, or comes of the calls after it
+  pub since_sync : (old synced new : D) (bytes : List ℕ) (P Q : List ℕ → Type 0) → disks.contents synced ≡ Some bytes → LeavesWhatIsRead (Some bytes) (disks.may_leave synced) → disks.moment old ≤ disks.moment synced
+      → Within (disks.moment synced) (disks.moment new) (disks.left_since synced) (disks.left_since new) Q → ((image : List ℕ) → disks.left_since synced (disks.moment synced) image → disks.may_leave synced image)
+      → P bytes → ((image : List ℕ) → Q image → P image) → HoldsSinceSync disks old new bytes P
+  since_sync old synced new bytes P Q told only began within only_now here q = record {
+    synced = synced;
+    told = told;
+    only = only;
+    began = began;
+    later = within.later;
+    each = λ image left. ⊎_elim (λ past. subst P (sym (only image (only_now image past))) here) (λ h. q image h) (within.each (disks.moment synced) image (omega arith) left);
+  }
+
   -- an opening that is refused before anything is written
   pub refused_calm : (old new : D) (fault : OpenFault) → Calm disks old new → IfSome (disks.contents old) (λ image. IsOpenFaultOf fault image) → (IsDisk fault → Rose (disks.faults old) (disks.faults new)) → (IsRefusal fault → LeavesWhatIsRead (disks.contents old) (disks.may_leave new))
       → IsOpeningRefused disks old new fault
@@ -47,6 +83,9 @@ module _ {D : Type 0} (disks : Disk.Ghosts D) where
     durable = durable;
     spares = for_told (disks.contents old) _ (λ image is store. spares_calm old new calm image);
     left = for_told (disks.contents old) _ (λ image is store. inl calm.crash);
+    wrote = for_told (disks.contents old) _ (λ image is. inl calm);
+    spares_read = for_told (disks.contents old) _ (λ image is store. subst (λ (o : Option (List ℕ)). IfSome o (SparesStore image)) (sym (calm.same ∙ is)) (spares_itself image store));
+    blank_read = for_told (disks.contents old) _ (λ image is none. subst (λ (o : Option (List ℕ)). IfSome o HasNoOpenCell) (sym (calm.same ∙ is)) (subst HasNoOpenCell (sym none) (no_open_zeros 0)));
   }
 
   after : (o o' : Option (List ℕ)) (P Q : List ℕ → Type 0) → o' ≡ o → ((image : List ℕ) → P image → Q image) → IfSome o' P → IfSome o Q
@@ -54,7 +93,7 @@ module _ {D : Type 0} (disks : Disk.Ghosts D) where
 
   spares_after : (a b c : D) → Calm disks a b → (image : List ℕ) → (IsStoreFile image → WithinSpares (disks.moment b) (disks.moment c) (disks.left_since b) (disks.left_since c) (disks.may_leave b) image) → IsStoreFile image → WithinSpares (disks.moment a) (disks.moment c) (disks.left_since a) (disks.left_since c) (disks.may_leave a) image
   spares_after a b c calm image later store =
-      within_both (disks.moment a) (disks.moment b) (disks.moment c) (disks.left_since a) (disks.left_since b) (disks.left_since c) (disks.may_leave a) (λ other. disks.may_leave b other ⊎ SparesOpen image other) (λ other. disks.may_leave a other ⊎ SparesOpen image other)
+      within_both (disks.moment a) (disks.moment b) (disks.moment c) (disks.left_since a) (disks.left_since b) (disks.left_since c) (disks.may_leave a) (λ other. disks.may_leave b other ⊎ SparesStore image other) (λ other. disks.may_leave a other ⊎ SparesStore image other)
       calm.within (later store) (λ other h. inl h) (λ other h. ⊎_elim (λ left. inl (calm.crash other left)) (λ spared. inr spared) h)
 
   -- what an opening gives after steps that wrote nothing
@@ -68,6 +107,8 @@ module _ {D : Type 0} (disks : Disk.Ghosts D) where
     found = after (disks.contents a) (disks.contents b) (λ image. IsFoundIn image states) (λ image. IsFoundIn image states) calm.same (λ image h. h) o.found;
     stands = after (disks.contents a) (disks.contents b) (λ image. StandsForContents disks c states (found_in image)) (λ image. StandsForContents disks c states (found_in image)) calm.same (λ image h. h) o.stands;
     spares = after (disks.contents a) (disks.contents b) _ _ calm.same (λ image h. spares_after a b c calm image h) o.spares;
+    since_sync = after (disks.contents a) (disks.contents b) _ _ calm.same (λ image h store. since_after a b c image (SparesStore image) calm (h store)) o.since_sync;
+    blank = after (disks.contents a) (disks.contents b) _ _ calm.same (λ image h none. since_after a b c blank_store HasNoOpenCell calm (h none)) o.blank;
   }
 
   pub refused_after : (a b c : D) (fault : OpenFault) → Calm disks a b → IsOpeningRefused disks b c fault → IsOpeningRefused disks a c fault
@@ -81,25 +122,27 @@ module _ {D : Type 0} (disks : Disk.Ghosts D) where
     unwritten_within = λ is. within_both (disks.moment a) (disks.moment b) (disks.moment c) (disks.left_since a) (disks.left_since b) (disks.left_since c) (disks.may_leave a) (disks.may_leave b) (disks.may_leave a) calm.within (r.unwritten_within is) (λ other h. h) (λ other h. calm.crash other h);
     durable = λ is. subst (λ (o : Option (List ℕ)). LeavesWhatIsRead o (disks.may_leave c)) calm.same (r.durable is);
     spares = after (disks.contents a) (disks.contents b) _ _ calm.same (λ image h. spares_after a b c calm image h) r.spares;
-    left = after (disks.contents a) (disks.contents b) _ (λ image. IsStoreFile image → NoNewImage (disks.may_leave a) (disks.may_leave c) ⊎ ((other : List ℕ) → disks.may_leave c other → SparesOpen image other)) calm.same
+    left = after (disks.contents a) (disks.contents b) _ (λ image. IsStoreFile image → NoNewImage (disks.may_leave a) (disks.may_leave c) ⊎ ((other : List ℕ) → disks.may_leave c other → SparesStore image other)) calm.same
         (λ image h store. ⊎_elim (λ none. inl (λ other left. calm.crash other (none other left))) (λ spared. inr spared) (h store)) r.left;
+    wrote = after (disks.contents a) (disks.contents b) _ _ calm.same (λ image h. wrote_after a b c image calm h) r.wrote;
+    spares_read = after (disks.contents a) (disks.contents b) (λ image. IsStoreFile image → IfSome (disks.contents c) (SparesStore image)) _ calm.same (λ image h. h) r.spares_read;
+    blank_read = after (disks.contents a) (disks.contents b) (λ image. image ≡ [] → IfSome (disks.contents c) HasNoOpenCell) _ calm.same (λ image h. h) r.blank_read;
   }
 
+pub no_opened_gate : (g : List ℕ) → g ≢ opened_gate → is_opened g ≡ false
+no_opened_gate [] differs = refl
+no_opened_gate (x ∷ []) differs = ne_eqb x 0xa5 (λ is. differs (ap (λ (y : ℕ). y ∷ []) is))
+no_opened_gate (x ∷ y ∷ rest) differs = refl
+
 pub not_opened : (g b : List ℕ) → g ≢ opened_gate → content_of g b ≡ Absent
-not_opened [] b differs = refl
-not_opened (x ∷ []) b differs = by (x == 0xa5) refl
-  where
-    by : (t : Bool) → (x == 0xa5) ≡ t → cond t (Present b) Absent ≡ Absent
-    by true is = absurd (differs (ap (λ (y : ℕ). y ∷ []) (eqb-true x 0xa5 is)))
-    by false is = refl
-not_opened (x ∷ y ∷ rest) b differs = refl
+not_opened g b differs = ap (λ (t : Bool). cond t (Present b) Absent) (no_opened_gate g differs)
 
 -- what is read of a cell is what is spared of it
 reads_spares : (state : CellState) (gate body : List ℕ) → Reads state gate body → Spares state (content_of gate body) gate body
 reads_spares Free gate body r = subst (λ (g : List ℕ). Spares Free (content_of g body) g body) (sym r.0) (refl, r.1)
 reads_spares (Open id creation) gate body r = subst (λ (g : List ℕ). Spares (Open id creation) (content_of g body) g body) (sym r.0) (refl, refl)
-reads_spares Shut gate body r = subst (λ (g : List ℕ). Spares Shut (content_of g body) g body) (sym r) refl
-reads_spares Unsure gate body r = subst (λ (c : Content). Spares Unsure c gate body) (sym (not_opened gate body r)) tt
+reads_spares Shut gate body r = subst (λ (g : List ℕ). Spares Shut (content_of g body) g body) (sym r.0) refl
+reads_spares Unsure gate body r = subst (λ (c : Content). Spares Unsure c gate body) (sym (not_opened gate body r.0)) tt
 
 pub reads_sound : (states : List CellState) (image : List ℕ) → IsStoreFile image → ReadsBelow cells states image → SoundBy Spares states (contents_of image) image
 reads_sound states image store reads = record {
@@ -117,6 +160,33 @@ spares_open states image other s cell lt is =
     by : (state : CellState) (g b : List ℕ) → Spares state (Present (body cell image)) g b → (g ≡ opened_gate) × (b ≡ body cell image)
     by (Open id creation) g b h = h
     by state g b h = absurd h
+
+-- and a cell that was closed by 0, or was all zeros, still is
+shut_still : (state : CellState) (b g' b' : List ℕ) → Reads state closed b → Spares state Absent g' b' → g' ≡ closed
+shut_still Free b g' b' r s = s.0
+shut_still (Open id creation) b g' b' r s = absurd s
+shut_still Shut b g' b' r s = s
+shut_still Unsure b g' b' r s = absurd (r.1 refl)
+
+zeros_still : (state : CellState) (g' b' : List ℕ) → Reads state closed zeros → Spares state Absent g' b' → (g' ≡ closed) × (b' ≡ zeros)
+zeros_still Free g' b' r s = s
+zeros_still (Open id creation) g' b' r s = absurd s
+zeros_still Shut g' b' r s = absurd (r.1 refl)
+zeros_still Unsure g' b' r s = absurd (r.1 refl)
+
+spares_store : (states : List CellState) (image other : List ℕ) → ReadsBelow cells states image → SoundBy Spares states (contents_of image) other → SparesStore image other
+spares_store states image other reads s = record {
+  store = record { size = s.size; header = s.header };
+  open_cells = spares_open states image other s;
+  shut = λ cell lt is. shut_still (cell_state states cell) (body cell image) (gate cell other) (body cell other) (read cell lt is) (spared cell lt is);
+  zeros = λ cell lt are. zeros_still (cell_state states cell) (gate cell other) (body cell other) (subst (λ (b : List ℕ). Reads (cell_state states cell) closed b) are.1 (read cell lt are.0)) (spared cell lt are.0);
+}
+  where
+    read : (cell : ℕ) → cell < cells → gate cell image ≡ closed → Reads (cell_state states cell) closed (body cell image)
+    read cell lt is = subst (λ (g : List ℕ). Reads (cell_state states cell) g (body cell image)) is (reads cell lt)
+
+    spared : (cell : ℕ) → cell < cells → gate cell image ≡ closed → Spares (cell_state states cell) Absent (gate cell other) (body cell other)
+    spared cell lt is = subst (λ (c : Content). Spares (cell_state states cell) c (gate cell other) (body cell other)) (content_there cell image lt ∙ ap (λ (g : List ℕ). content_of g (body cell image)) is) (s.each cell lt)
 
 -- the directory once no cell is left over
 settled_has : (id : ℕ) (state : CellState) → has_id id (settled_state state) ≡ has_id id state
@@ -155,8 +225,9 @@ module _ (states states' : List CellState) (count : length states ≡ 512) (is :
 
   finds : (state : CellState) (g b : List ℕ) → Reads state g b → Finds (settled_state state) g b
   finds Free g b r = λ e. let clash : closed ≡ opened_gate = sym r.0 ∙ e in cc
-  finds Shut g b r = λ e. let clash : closed ≡ opened_gate = sym r ∙ e in cc
-  finds state g b r = r
+  finds Shut g b r = λ e. let clash : closed ≡ opened_gate = sym r.0 ∙ e in cc
+  finds Unsure g b r = r.0
+  finds (Open id creation) g b r = r
 
   pub settled_directory : (image : List ℕ) → IsStoreFile image → ReadsBelow cells states image → HasOneEach cells states → IsImageDirectory states' image
   settled_directory image store reads one = record {
@@ -173,9 +244,14 @@ pub of_nothing : (told : Option (List ℕ)) (size : ℕ) (P : List ℕ → Type 
 of_nothing None size P none measured h = tt
 of_nothing (Some image) size P none measured h = subst P (sym (nil_from_length image (measured ∙ none))) h
 
+-- what a new file is that isn't made yet
+abbrev pub IsBlankFile : {D : Type 0} → Disk.Ghosts D → D → D → Type 0
+IsBlankFile disks old new = IfSome (disks.contents new) HasNoOpenCell × (IfSome (disks.contents new) (λ read. read ≡ replicate (length read) 0) ⊎ IsBlankSinceSync disks old new)
+
 pub refused_new : {D : Type 0} (disks : Disk.Ghosts D) (old new : D) (size : ℕ)
-    → size ≡ 0 → IfSome (disks.contents old) (λ image. length image ≡ size) → StillTells (disks.contents old) (disks.contents new) → disks.faults old ≤ disks.faults new → Rose (disks.faults old) (disks.faults new) → IsOpeningRefused disks old new Disk
-refused_new disks old new size none measured tells later rose = record {
+    → size ≡ 0 → IfSome (disks.contents old) (λ image. length image ≡ size) → StillTells (disks.contents old) (disks.contents new) → disks.faults old ≤ disks.faults new → Rose (disks.faults old) (disks.faults new)
+    → ((image : List ℕ) → disks.contents old ≡ Some image → length image ≡ 0 → IsBlankFile disks old new) → IsOpeningRefused disks old new Disk
+refused_new disks old new size none measured tells later rose blank = record {
   tells = tells;
   later = later;
   unwritten = λ is. absurd is;
@@ -186,7 +262,13 @@ refused_new disks old new size none measured tells later rose = record {
   durable = λ is. absurd is;
   spares = no_store (disks.contents old) size _ none measured;
   left = no_store (disks.contents old) size _ none measured;
+  wrote = for_told (disks.contents old) _ (λ image is. inr (inr (nil_from_length image (empty image is), (blank image is (empty image is)).1)));
+  spares_read = no_store (disks.contents old) size _ none measured;
+  blank_read = for_told (disks.contents old) _ (λ image is nothing. (blank image is (empty image is)).0);
 }
+  where
+    empty : (image : List ℕ) → disks.contents old ≡ Some image → length image ≡ 0
+    empty image is = subst (λ (told : Option (List ℕ)). IfSome told (λ bytes. length bytes ≡ size)) is measured ∙ none
 
 -- a store that was read, of an image that isn't empty
 pub of_store : (told : Option (List ℕ)) (P : List ℕ → List Content → Type 0) → IfSome told (λ image. IsStoreFile image × P image (contents_of image)) → IfSome told (λ image. P image (found_in image))
@@ -206,52 +288,68 @@ none_has f cell states none are lt has =
     cc
 
 module _ {D : Type 0} (disks : Disk.Ghosts D) (disk mid : D) (states : List CellState) (calm : Calm disks disk mid) (durable : LeavesWhatIsRead (disks.contents disk) (disks.may_leave disk)) (store : IfSome (disks.contents disk) (λ image. IsStoreFile image)) (reads : IfSome (disks.contents disk) (λ image. ReadsBelow cells states image)) where
+  only : (image : List ℕ) → disks.contents disk ≡ Some image → LeavesWhatIsRead (Some image) (disks.may_leave disk)
+  only image is = subst (λ (o : Option (List ℕ)). LeavesWhatIsRead o (disks.may_leave disk)) is durable
+
+  here : (image : List ℕ) → disks.contents disk ≡ Some image → IsStoreFile image
+  here image is = subst (λ (o : Option (List ℕ)). IfSome o (λ image. IsStoreFile image)) is store
+
+  read : (image : List ℕ) → disks.contents disk ≡ Some image → ReadsBelow cells states image
+  read image is = subst (λ (o : Option (List ℕ)). IfSome o (λ image. ReadsBelow cells states image)) is reads
+
   -- what was read, before any cell that is left over is cleared
   read_begins : (image : List ℕ) → disks.contents disk ≡ Some image → Clearing disks mid states states (contents_of image)
-  read_begins image is =
-      let only : LeavesWhatIsRead (Some image) (disks.may_leave disk) = subst (λ (o : Option (List ℕ)). LeavesWhatIsRead o (disks.may_leave disk)) is durable in
-      let here : IsStoreFile image = subst (λ (o : Option (List ℕ)). IfSome o (λ image. IsStoreFile image)) is store in
-      let read : ReadsBelow cells states image = subst (λ (o : Option (List ℕ)). IfSome o (λ image. ReadsBelow cells states image)) is reads in
-      record {
-        now = image;
-        is_told = calm.same ∙ is;
-        reads = reads_sound states image here read;
-        each = λ other left. subst (λ (x : List ℕ). SoundBy Spares states (contents_of image) x) (sym (only other (calm.crash other left))) (reads_sound states image here read);
-        shut = λ cell lt shut. shut;
-        unsure = λ cell lt unsure. unsure;
-      }
+  read_begins image is = record {
+    now = image;
+    is_told = calm.same ∙ is;
+    reads = reads_sound states image (here image is) (read image is);
+    each = λ other left. subst (λ (x : List ℕ). SoundBy Spares states (contents_of image) x) (sym (only image is other (calm.crash other left))) (reads_sound states image (here image is) (read image is));
+    shut = λ cell lt shut. shut;
+    unsure = λ cell lt unsure. unsure;
+  }
 
   abbrev pub ClearsWithin : D → Type 0
   ClearsWithin new = (contents : List Content) → Clearing disks mid states states contents → Within (disks.moment mid) (disks.moment new) (disks.left_since mid) (disks.left_since new) (SoundBy Spares states contents)
 
-  read_spares : (new : D) → ClearsWithin new → IfSome (disks.contents disk) (λ image. IsStoreFile image → WithinSpares (disks.moment disk) (disks.moment new) (disks.left_since disk) (disks.left_since new) (disks.may_leave disk) image)
-  read_spares new within = for_told (disks.contents disk) _ (λ image is here.
-      within_both (disks.moment disk) (disks.moment mid) (disks.moment new) (disks.left_since disk) (disks.left_since mid) (disks.left_since new) (disks.may_leave disk) (SoundBy Spares states (contents_of image)) (λ other. disks.may_leave disk other ⊎ SparesOpen image other)
-      calm.within (within (contents_of image) (read_begins image is)) (λ other h. inl h) (λ other h. inr (spares_open states image other h)))
+  -- every image within the calls is what was read, or is spared
+  read_within : (new : D) (P : List ℕ → Type 0) → ClearsWithin new → (image : List ℕ) → disks.contents disk ≡ Some image → ((other : List ℕ) → disks.may_leave disk other → P other) → ((other : List ℕ) → SparesStore image other → P other)
+      → Within (disks.moment disk) (disks.moment new) (disks.left_since disk) (disks.left_since new) P
+  read_within new P within image is old spared =
+      within_both (disks.moment disk) (disks.moment mid) (disks.moment new) (disks.left_since disk) (disks.left_since mid) (disks.left_since new) (disks.may_leave disk) (SoundBy Spares states (contents_of image)) P
+      calm.within (within (contents_of image) (read_begins image is)) old (λ other h. spared other (spares_store states image other (read image is) h))
 
-  pub read_opened : (new : D) (states' : List CellState) → length states ≡ 512 → states' ≡ settled_states states → HasOneEach cells states → IsNumbered cells states → IsNamed cells states → StillTells (disks.contents mid) (disks.contents new)
+  read_spares : (new : D) → ClearsWithin new → IfSome (disks.contents disk) (λ image. IsStoreFile image → WithinSpares (disks.moment disk) (disks.moment new) (disks.left_since disk) (disks.left_since new) (disks.may_leave disk) image)
+  read_spares new within = for_told (disks.contents disk) _ (λ image is store. read_within new (λ other. disks.may_leave disk other ⊎ SparesStore image other) within image is (λ other h. inl h) (λ other h. inr h))
+
+  abbrev pub IsNow : Type 0
+  IsNow = (image : List ℕ) → disks.left_since disk (disks.moment disk) image → disks.may_leave disk image
+
+  read_since : (new : D) → IsNow → ClearsWithin new → (image : List ℕ) → disks.contents disk ≡ Some image → SparesSinceSync disks disk new image
+  read_since new only_now within image is =
+      let itself : SparesStore image image = spares_itself image (here image is) in
+      since_sync disks disk disk new image (SparesStore image) (SparesStore image) is (only image is) (omega arith)
+      (read_within new (SparesStore image) within image is (λ other left. subst (SparesStore image) (sym (only image is other left)) itself) (λ other h. h)) only_now itself (λ other h. h)
+
+  pub read_opened : (new : D) (states' : List CellState) → IsNow → length states ≡ 512 → states' ≡ settled_states states → HasOneEach cells states → IsNumbered cells states → IsNamed cells states → StillTells (disks.contents mid) (disks.contents new)
       → ((contents : List Content) → length contents ≡ 512 → Clearing disks mid states states contents → StandsForContents disks new states' contents) → ClearsWithin new
       → IsOpened disks disk new states'
-  read_opened new states' count is one numbered named tells stands within = record {
+  read_opened new states' only_now count is one numbered named tells stands within = record {
     sized = ap length is ∙ (length-map states settled_state ∙ count);
     one = settled_one states states' count is one;
     numbered = settled_numbered states states' count is numbered;
     named = settled_named states states' count is named;
     tells = tells ∙ ap is_some calm.same;
-    found = of_directory (disks.contents disk) states' (for_told (disks.contents disk) _ (λ image told_is.
-        let here : IsStoreFile image = subst (λ (o : Option (List ℕ)). IfSome o (λ image. IsStoreFile image)) told_is store in
-        let read : ReadsBelow cells states image = subst (λ (o : Option (List ℕ)). IfSome o (λ image. ReadsBelow cells states image)) told_is reads in
-        settled_directory states states' count is image here read one));
-    stands = of_store (disks.contents disk) (λ image contents. StandsForContents disks new states' contents) (for_told (disks.contents disk) _ (λ image told_is.
-        let here : IsStoreFile image = subst (λ (o : Option (List ℕ)). IfSome o (λ image. IsStoreFile image)) told_is store in
-        (here, stands (contents_of image) (length-contents_of image) (read_begins image told_is))));
+    found = of_directory (disks.contents disk) states' (for_told (disks.contents disk) _ (λ image told_is. settled_directory states states' count is image (here image told_is) (read image told_is) one));
+    stands = of_store (disks.contents disk) (λ image contents. StandsForContents disks new states' contents) (for_told (disks.contents disk) _ (λ image told_is. (here image told_is, stands (contents_of image) (length-contents_of image) (read_begins image told_is))));
     spares = read_spares new within;
+    since_sync = for_told (disks.contents disk) _ (λ image told_is file. read_since new only_now within image told_is);
+    blank = for_told (disks.contents disk) _ (λ image told_is none. absurd (omega (arith, (here image told_is).size, ap length none)));
   }
 
-  pub read_refused : (new : D) → StillTells (disks.contents mid) (disks.contents new) → disks.faults disk ≤ disks.faults new → Rose (disks.faults disk) (disks.faults new)
+  pub read_refused : (new : D) → IsNow → IfSome (disks.contents new) (disks.may_leave new) → StillTells (disks.contents mid) (disks.contents new) → disks.faults disk ≤ disks.faults new → Rose (disks.faults disk) (disks.faults new)
       → ((contents : List Content) → Clearing disks mid states states contents → (image : List ℕ) → disks.may_leave new image → SoundBy Spares states contents image) → ClearsWithin new
       → IsOpeningRefused disks disk new Disk
-  read_refused new tells later rose left within = record {
+  read_refused new only_now read_now tells later rose left within = record {
     tells = tells ∙ ap is_some calm.same;
     later = later;
     unwritten = λ is. absurd is;
@@ -261,8 +359,14 @@ module _ {D : Type 0} (disks : Disk.Ghosts D) (disk mid : D) (states : List Cell
     same = λ is. absurd is;
     durable = λ is. absurd is;
     spares = read_spares new within;
-    left = for_told (disks.contents disk) _ (λ image is here. inr (λ other has. spares_open states image other (left (contents_of image) (read_begins image is) other has)));
+    left = for_told (disks.contents disk) _ (λ image is file. inr (spared image is));
+    wrote = for_told (disks.contents disk) _ (λ image is. inr (inl (here image is, read_since new only_now within image is)));
+    spares_read = for_told (disks.contents disk) _ (λ image is file. some_weaker (disks.contents new) (disks.may_leave new) (SparesStore image) (λ other has. spared image is other has) read_now);
+    blank_read = for_told (disks.contents disk) _ (λ image is none. absurd (omega (arith, (here image is).size, ap length none)));
   }
+    where
+      spared : (image : List ℕ) → disks.contents disk ≡ Some image → (other : List ℕ) → disks.may_leave new other → SparesStore image other
+      spared image is other has = spares_store states image other (read image is) (left (contents_of image) (read_begins image is) other has)
 
 -- nothing is pending still
 pub durable_still : {D : Type 0} (disks : Disk.Ghosts D) (old new : D) → LeavesWhatIsRead (disks.contents old) (disks.may_leave old) → NoNewImage (disks.may_leave old) (disks.may_leave new) → LeavesWhatIsRead (disks.contents old) (disks.may_leave new)

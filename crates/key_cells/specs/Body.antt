@@ -34,8 +34,8 @@ HoldsNoKey body = (a : Attributes) (key : List ℕ) → HoldsKey a key body → 
 abbrev pub HoldsId : ℕ → List ℕ → Type 0
 HoldsId id body = (a : Attributes) × (key : List ℕ) × HoldsKey a key body × (a.id.0 ≡ id)
 
--- the attributes and the end of the key's bytes in a cell, which begin at byte 52
-pub record FoundKey (a : Attributes) (end : ℕ) (cell : List ℕ) : Type 0 where
+-- a cell holds a key of these attributes, whose bytes begin at byte 52 and end here
+pub record HasKeyUpTo (a : Attributes) (end : ℕ) (cell : List ℕ) : Type 0 where
   pub above : 52 ≤ end
   pub below : end ≤ 1076
   pub holds : HoldsKey a (take (end - 52) (drop 52 cell)) (drop 1 cell)

@@ -2,7 +2,8 @@
 use Rattle.std.specs.Prelude.{◌≡◌, ◌≢◌, ◌⊎◌, ℕ, ◌<◌, List, length, take, drop}
 use Rattle.std.specs.Int.{w32, from_le_bytes}
 use Rattle.key_attributes.specs.declared.Attributes.{Attributes}
-use Rattle.key_cells.specs.Layout.{cells, store_size, header_size, part, gate, body, opened_gate, header}
+use Rattle.key_cells.specs.Layout.{cells, store_size, header_size, part, gate, body, opened_gate, closed, header}
+use Rattle.key_cells.specs.Contents.{HasZeros}
 use Rattle.key_cells.specs.Body.{HoldsKey, HoldsNoKey}
 
 -- the length and the header of a store
@@ -45,6 +46,18 @@ pub record IsFirstDamaged (image : List ℕ) (cell : ℕ) : Type 0 where
 abbrev pub HasKey : Attributes → List ℕ → List ℕ → Type 0
 HasKey a key image = (cell : ℕ) × (cell < cells) × IsOpen cell image × HoldsKey a key (body cell image)
 
+-- no cell of an image is open
+abbrev pub HasNoOpenCell : List ℕ → Type 0
+HasNoOpenCell image = (cell : ℕ) → cell < cells → IsOpen cell image → ⊥
+
 -- another image has each open cell of this one, byte for byte
 abbrev pub SparesOpen : List ℕ → List ℕ → Type 0
 SparesOpen image other = (cell : ℕ) → cell < cells → IsOpen cell image → IsOpen cell other × (body cell other ≡ body cell image)
+
+-- Another image is a store with each open cell of this one, byte for byte. A cell that 0 closes stays closed by it, and
+-- one that is all zeros stays so.
+pub record SparesStore (image other : List ℕ) : Type 0 where
+  pub store : IsStoreFile other
+  pub open_cells : SparesOpen image other
+  pub shut : (cell : ℕ) → cell < cells → gate cell image ≡ closed → gate cell other ≡ closed
+  pub zeros : (cell : ℕ) → cell < cells → HasZeros cell image → HasZeros cell other

@@ -1,14 +1,14 @@
 -- What an opening gives, and what it leaves where it is refused.
 use Rattle.disk_face.specs.declared.Disk as Disk
-use Rattle.std.specs.Prelude.{◌≡◌, ◌≤◌, ◌⊎◌, ℕ, List, length, IfSome}
+use Rattle.std.specs.Prelude.{◌≡◌, ◌≤◌, ◌⊎◌, ℕ, List, [], length, replicate, Some, IfSome}
 use Rattle.psa_status.specs.Causes.{Rose}
 use Rattle.disk_face.specs.Disk.{NoNewImage, LeavesWhatIsRead, StillTells}
 use Rattle.disk_face.specs.Moments.{Within}
 use Rattle.key_cells.specs.declared.state.CellState.{CellState}
 use Rattle.key_cells.specs.declared.reading.OpenFault.{OpenFault}
-use Rattle.key_cells.specs.Layout.{cells}
+use Rattle.key_cells.specs.Layout.{blank_store, cells}
 use Rattle.key_cells.specs.Contents.{StandsForContents}
-use Rattle.key_cells.specs.Image.{IsStoreFile, SparesOpen}
+use Rattle.key_cells.specs.Image.{HasNoOpenCell, IsStoreFile, SparesStore}
 use Rattle.key_cells.specs.Causes.{IsOpenFaultOf, IsDisk, IsRefusal}
 use Rattle.key_cells.specs.Opening.{found_in, IsFoundIn, HasOneEach, IsNumbered, IsNamed, WithinSpares}
 
@@ -19,8 +19,34 @@ pub record Calm {D : Type 0} (disks : Disk.Ghosts D) (old new : D) : Type 0 wher
   pub within : Within (disks.moment old) (disks.moment new) (disks.left_since old) (disks.left_since new) (disks.may_leave old)
   pub later : disks.faults old ≤ disks.faults new
 
+-- Since some moment of the calls, when a disk of these bytes had nothing pending, each image has P.
+pub record HoldsSinceSync {D : Type 0} (disks : Disk.Ghosts D) (old new : D) (bytes : List ℕ) (P : List ℕ → Type 0) : Type 0 where
+  pub synced : D
+  pub told : disks.contents synced ≡ Some bytes
+  pub only : (image : List ℕ) → disks.may_leave synced image → image ≡ bytes
+  pub began : disks.moment old ≤ disks.moment synced
+  pub later : disks.moment synced ≤ disks.moment new
+  pub each : (image : List ℕ) → disks.left_since new (disks.moment synced) image → P image
+
+-- since its first sync each image has what an opening spares of a store
+abbrev pub SparesSinceSync : {D : Type 0} → Disk.Ghosts D → D → D → List ℕ → Type 0
+SparesSinceSync disks old new image = HoldsSinceSync disks old new image (SparesStore image)
+
+-- since its zeros were made sure of, no image of a new file has an open cell
+abbrev pub IsBlankSinceSync : {D : Type 0} → Disk.Ghosts D → D → D → Type 0
+IsBlankSinceSync disks old new = HoldsSinceSync disks old new blank_store HasNoOpenCell
+
+-- What an opening wrote that was refused: nothing; or it cleared cells of a store; or it lengthened a new file by zeros,
+-- which are what is read, or were made sure of.
+abbrev pub WritesItsOwn : {D : Type 0} → Disk.Ghosts D → D → D → List ℕ → Type 0
+WritesItsOwn disks old new image =
+    Calm disks old new
+    ⊎ (IsStoreFile image × SparesSinceSync disks old new image)
+    ⊎ ((image ≡ []) × (IfSome (disks.contents new) (λ read. read ≡ replicate (length read) 0) ⊎ IsBlankSinceSync disks old new))
+
 -- An opening found exactly the keys of the disk's image, and nothing is in doubt. Of a store that was there, every
--- image within the opening has each open cell byte for byte, or might have been left before the opening.
+-- image within the opening has each open cell byte for byte, or might have been left before the opening, and since its
+-- first sync each has them; of a new file no image has an open cell since its zeros were made sure of.
 pub record IsOpened {D : Type 0} (disks : Disk.Ghosts D) (old new : D) (states : List CellState) : Type 0 where
   pub sized : length states ≡ cells
   pub one : HasOneEach cells states
@@ -30,9 +56,11 @@ pub record IsOpened {D : Type 0} (disks : Disk.Ghosts D) (old new : D) (states :
   pub found : IfSome (disks.contents old) (λ image. IsFoundIn image states)
   pub stands : IfSome (disks.contents old) (λ image. StandsForContents disks new states (found_in image))
   pub spares : IfSome (disks.contents old) (λ image. IsStoreFile image → WithinSpares (disks.moment old) (disks.moment new) (disks.left_since old) (disks.left_since new) (disks.may_leave old) image)
+  pub since_sync : IfSome (disks.contents old) (λ image. IsStoreFile image → SparesSinceSync disks old new image)
+  pub blank : IfSome (disks.contents old) (λ image. image ≡ [] → IsBlankSinceSync disks old new)
 
 -- An opening was refused: for what the image has, and then nothing was written and nothing is pending, or for a fault
--- of the disk or of memory.
+-- of the disk or of memory. What was written is the opening's own.
 pub record IsOpeningRefused {D : Type 0} (disks : Disk.Ghosts D) (old new : D) (fault : OpenFault) : Type 0 where
   pub caused : IfSome (disks.contents old) (λ image. IsOpenFaultOf fault image)
   pub tells : StillTells (disks.contents old) (disks.contents new)
@@ -43,4 +71,7 @@ pub record IsOpeningRefused {D : Type 0} (disks : Disk.Ghosts D) (old new : D) (
   pub unwritten_within : IsRefusal fault → Within (disks.moment old) (disks.moment new) (disks.left_since old) (disks.left_since new) (disks.may_leave old)
   pub durable : IsRefusal fault → LeavesWhatIsRead (disks.contents old) (disks.may_leave new)
   pub spares : IfSome (disks.contents old) (λ image. IsStoreFile image → WithinSpares (disks.moment old) (disks.moment new) (disks.left_since old) (disks.left_since new) (disks.may_leave old) image)
-  pub left : IfSome (disks.contents old) (λ image. IsStoreFile image → NoNewImage (disks.may_leave old) (disks.may_leave new) ⊎ ((other : List ℕ) → disks.may_leave new other → SparesOpen image other))
+  pub left : IfSome (disks.contents old) (λ image. IsStoreFile image → NoNewImage (disks.may_leave old) (disks.may_leave new) ⊎ ((other : List ℕ) → disks.may_leave new other → SparesStore image other))
+  pub wrote : IfSome (disks.contents old) (λ image. WritesItsOwn disks old new image)
+  pub spares_read : IfSome (disks.contents old) (λ image. IsStoreFile image → IfSome (disks.contents new) (SparesStore image))
+  pub blank_read : IfSome (disks.contents old) (λ image. image ≡ [] → IfSome (disks.contents new) HasNoOpenCell)

@@ -6,4 +6,4 @@ unfoldable pub use Rattle.key_cells.specs.Body.{body_of}
 pub use Rattle.key_cells.specs.Contents.{Absent, Content, CreationFailed, Doubtful, Fits, FitsCell, HasNoKey, HasZeros, IsFirstWithKey, IsFirstWithoutKey, IsFull, IsSure, Moves, MovesEither, Present, Shows, Sound, StandsForContents, cell_state, content_at, creation_of_state, has_id, is_open, settled, settled_content, settled_state, settled_states}
 pub use Rattle.key_cells.specs.Image.{HasKey, IsDamaged, IsFirstDamaged, IsNoStore, Opens}
 pub use Rattle.key_cells.specs.Opening.{Finds, HasOneEach, IsFoundIn, IsNamed, IsNumbered, content_of, found_in}
-pub use Rattle.key_cells.specs.Opened.{IsOpened, IsOpeningRefused}
+pub use Rattle.key_cells.specs.Opened.{Calm, IsOpened, IsOpeningRefused}

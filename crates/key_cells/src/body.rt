@@ -2,7 +2,7 @@
 ghost use Rattle.std.specs.Prelude.{◌≡◌, ◌≤◌, ◌+◌, ◌-◌, ◌++◌, ◌↔◌, ℕ, List, length, take, drop, replicate, MatchOption, IsTrue};
 ghost use Rattle.std.specs.Int.{w32, from_le_bytes};
 ghost use Rattle.disk_face.specs.Moments.{written};
-ghost use Rattle.key_cells.specs.Body.{IsPersistent, IsKeyOf, front_of, body_of, HoldsNoKey, FoundKey, IsOfOneKey};
+ghost use Rattle.key_cells.specs.Body.{IsPersistent, IsKeyOf, front_of, body_of, HoldsNoKey, HasKeyUpTo, IsOfOneKey};
 
 use key_attributes::{Attributes, KeyId};
 use key_record::{read, total_length, write};
@@ -93,7 +93,7 @@ fn begins_with(cell: &[u8; 1088], front: &[u8; 15]) -> bool
 /// The key of an open cell: its attributes, and where its bytes end, which begin at byte 52. None where the cell is
 /// the cell of no key.
 pub fn read_key(cell: &[u8; 1088]) -> Option<(Attributes, usize)>
-    ensures { MatchOption result (HoldsNoKey (drop 1 cell.now)) (λ found. FoundKey found.0 found.1 cell.now) }
+    ensures { MatchOption result (HoldsNoKey (drop 1 cell.now)) (λ found. HasKeyUpTo found.0 found.1 cell.now) }
 {
     let id = id_of(cell);
     if !is_persistent(id) {

@@ -5,6 +5,7 @@ ghost use Rattle.key_cells.specs.Contents.{KeepsContents, cell_state, is_open, h
 ghost use Rattle.key_cells.specs.Body.{IsKeyOf};
 ghost use Rattle.key_cells.specs.Calls.{IsKeyOfCell, IsCorrupt};
 ghost use Rattle.key_cells.specs.History.{Nothing, AddsEntry};
+ghost use Rattle.key_cells.specs.Opened.{Calm};
 ghost use Rattle.secret_bytes.specs.Buffer.{bytes_of, IsClear};
 
 use crate::body::{read_key, wipe};
@@ -26,6 +27,7 @@ impl<D: Disk> Cells<D> {
         ensures size { D.size self.new.disk ≡ 557120 }
         ensures states { self.new.states ≡ self.old.states }
         ensures same { D.contents self.new.disk ≡ D.contents self.old.disk }
+        ensures calm { Calm D.Disk self.old.disk self.new.disk }
         ensures named { IfOk result (λ attributes. has_id attributes.id.0 (cell_state self.old.states.items cell) ≡ true) }
         ensures key { IfOk result (λ attributes. IsKeyOf attributes (bytes_of out.new)) }
         ensures loaded { IfOk result (λ attributes. IsKeyOfCell D.Disk self.old cell attributes (bytes_of out.new)) }
@@ -50,7 +52,7 @@ impl<D: Disk> Cells<D> {
     }
 
     // The attributes of a key, and its bytes into the buffer. The bytes of its cell are left in the room.
-    #[tactic(auto, using(crate::proofs::Loading::read_keeps))]
+    #[tactic(auto, using(crate::proofs::Loading::read_keeps, crate::proofs::Opened::calm_one))]
     fn read_into(
         &mut self,
         cell: usize,
@@ -63,6 +65,7 @@ impl<D: Disk> Cells<D> {
         ensures size { D.size self.new.disk ≡ 557120 }
         ensures states { self.new.states ≡ self.old.states }
         ensures same { D.contents self.new.disk ≡ D.contents self.old.disk }
+        ensures calm { Calm D.Disk self.old.disk self.new.disk }
         ensures named { IfOk result (λ attributes. has_id attributes.id.0 (cell_state self.old.states.items cell) ≡ true) }
         ensures key { IfOk result (λ attributes. IsKeyOf attributes (bytes_of out.new)) }
         ensures loaded { IfOk result (λ attributes. IsKeyOfCell D.Disk self.old cell attributes (bytes_of out.new)) }

@@ -1,10 +1,10 @@
 // What an opening reads.
-ghost use Rattle.std.specs.Prelude.{◌≡◌, ◌≤◌, length, IsErrOf, ◌<◌, ◌+◌, ◌*◌, cond, take, IfOk, IfErr, IfSome, OnOk, IsTrue, MatchOption, ◌↔◌, ℕ};
+ghost use Rattle.std.specs.Prelude.{◌≡◌, ◌≢◌, ◌≤◌, drop, false, length, IsErrOf, ◌<◌, ◌+◌, ◌*◌, cond, take, IfOk, IfErr, IfSome, OnOk, IsTrue, MatchOption, ◌↔◌, ℕ};
 ghost use Rattle.psa_status.specs.Causes.{HasCause, Rose};
 ghost use Rattle.disk_face.specs.Disk.{NoNewImage, Elapses};
 ghost use Rattle.key_cells.specs.Contents.{is_open, HasNoKey, IsFirstWithKey};
 ghost use Rattle.key_cells.specs.Image.{IsStoreFile};
-ghost use Rattle.key_cells.specs.Opening.{GivesPart, IsBadCell, ReadsCell, ReadsBelow, HasOneEach, IsNumbered, IsNamed};
+ghost use Rattle.key_cells.specs.Opening.{GivesPart, IsBadCell, Reads, ReadsCell, ReadsKey, ReadsBelow, HasOneEach, IsNumbered, IsNamed};
 ghost use Rattle.key_cells.specs.Causes.{IsOpenFaultOf, IsDisk};
 ghost use Rattle.key_cells.specs.Opened.{Calm};
 ghost use Rattle.key_cells.specs.Layout.{opened_gate, zeros, header};
@@ -13,6 +13,7 @@ use crate::CellState;
 use crate::body::{read_key, wipe};
 use crate::cells::{CELLS, CLOSED, OPENED, place};
 use disk_face::Disk;
+use key_attributes::Attributes;
 use psa_status::Failed;
 
 /// Reads the bytes of a cell.
@@ -42,38 +43,62 @@ pub fn find_key(states: &[CellState], id: u32) -> Option<usize>
     None
 }
 
-// The state of an open cell with these bytes, as the next that was found; none where it is damaged.
-fn open_state_of(bytes: &[u8; 1088], before: &[CellState], found: u64) -> Option<CellState>
+/// What the bytes of a cell say: its state, and where it is open its key, by the attributes and the end of the bytes.
+#[derive(Drop)]
+pub struct CellRead {
+    pub state: CellState,
+    pub key: Option<(Attributes, usize)>,
+}
+
+// What the bytes of an open cell say, its key being the next that was found; none where it is damaged.
+fn decode_open(bytes: &[u8; 1088], before: &[CellState], found: u64) -> Option<CellRead>
     requires { take 1 bytes.now ≡ opened_gate }
-    ensures { MatchOption result (IsBadCell bytes.now before.now) (λ state. ReadsCell state bytes.now before.now found) }
+    ensures { MatchOption result (IsBadCell bytes.now before.now)
+        (λ read. ReadsCell read.state bytes.now before.now found × ReadsKey read.key bytes.now) }
 {
-    let Some((attributes, _end)) = read_key(bytes) else {
+    let Some((attributes, end)) = read_key(bytes) else {
         return None;
     };
     let id = attributes.id.0;
     match find_key(before, id) {
         Some(_cell) => None,
-        None => Some(CellState::Open {
-            id,
-            creation: found,
+        None => Some(CellRead {
+            state: CellState::Open {
+                id,
+                creation: found,
+            },
+            key: Some((attributes, end)),
         }),
     }
 }
 
-// The state of a cell with these bytes; none where it is damaged.
-fn state_of(bytes: &[u8; 1088], before: &[CellState], found: u64) -> Option<CellState>
-    ensures { MatchOption result (IsBadCell bytes.now before.now) (λ state. ReadsCell state bytes.now before.now found) }
+// The state of a closed cell.
+fn decode_closed(bytes: &[u8; 1088]) -> CellState
+    requires { take 1 bytes.now ≢ opened_gate }
+    ensures reads { Reads result (take 1 bytes.now) (drop 1 bytes.now) }
+    ensures closed { is_open result ≡ false }
 {
-    if bytes[0] == OPENED {
-        return open_state_of(bytes, before, found);
-    }
     if bytes[0] != CLOSED {
-        return Some(CellState::Unsure);
+        return CellState::Unsure;
     }
     if is_clear(&bytes[1..]) {
-        return Some(CellState::Free);
+        return CellState::Free;
     }
-    Some(CellState::Shut)
+    CellState::Shut
+}
+
+/// What the bytes of a cell say; none where it is damaged.
+pub fn decode(bytes: &[u8; 1088], before: &[CellState], found: u64) -> Option<CellRead>
+    ensures { MatchOption result (IsBadCell bytes.now before.now)
+        (λ read. ReadsCell read.state bytes.now before.now found × ReadsKey read.key bytes.now) }
+{
+    if bytes[0] == OPENED {
+        return decode_open(bytes, before, found);
+    }
+    Some(CellRead {
+        state: decode_closed(bytes),
+        key: None,
+    })
 }
 
 // How many keys were found, with this state.
@@ -86,14 +111,14 @@ fn counted(found: u64, state: &CellState) -> u64
 
 // Whether a body is all zeros.
 fn is_clear(body: &[u8]) -> bool
-    ensures { IsTrue result → body.now ≡ zeros }
+    ensures { IsTrue result ↔ (body.now ≡ zeros) }
 {
     let zeros: &[u8] = &[0; 1087];
     body == zeros
 }
 
-// Whether these are the header's bytes.
-fn is_header(bytes: &[u8; 64]) -> bool
+/// Whether these are the header's bytes.
+pub fn is_header(bytes: &[u8; 64]) -> bool
     ensures { IsTrue result ↔ (bytes.now ≡ header) }
 {
     *bytes == HEADER
@@ -184,11 +209,11 @@ fn read_states<D: Disk>(
             Ok(()) => {}
             Err(Failed) => return Err(OpenFault::Disk),
         }
-        let Some(state) = state_of(room, &states[..cell], found) else {
+        let Some(read) = decode(room, &states[..cell], found) else {
             return Err(OpenFault::DamagedCell { cell });
         };
-        found = counted(found, &state);
-        states[cell] = state;
+        found = counted(found, &read.state);
+        states[cell] = read.state;
     }
     Ok(())
 }

@@ -1,6 +1,5 @@
 -- What calls make of the directory.
-use Rattle.persistent_keys.proofs.Common.{Free, IsFirstWithoutKey, IsFull, IsSure, List, Open, CellState, Unsure, [], ap, arith, cell_state, false, get_or-map, has_id, is_open, length, length-map, map-set, refl, set, settled_open, settled_state, settled_states, suc, sym, true, ℕ, ◌<◌, ◌∙◌, ◌∷◌, ◌≡◌}
-use Rattle.std.proofs.lemmas.Bool.{eqb-true}
+use Rattle.persistent_keys.proofs.Common.{[], ap, arith, cell_state, CellState, eqb-true, false, Free, get_or-map, has_id, inl, inr, is_open, IsFirstWithoutKey, IsFull, IsSure, length, length-map, List, map-set, Open, refl, set, settled_open, settled_state, settled_states, StaysFree, StaysFreeBut, suc, sym, true, Unsure, ℕ, ⊎_elim, ◌<◌, ◌∙◌, ◌∷◌, ◌≡◌}
 use Rattle.persistent_keys.proofs.Filing.{settled_twice}
 
 -- where each cell has a key, none is in doubt
@@ -22,6 +21,10 @@ first_of_settled states states' cell is first =
       here = sym (open_settled states cell within) ∙ (ap (λ (l : List CellState). is_open (cell_state l cell)) (sym is) ∙ first.here);
       before = λ other lt. sym (open_settled states other (omega (arith, lt, within))) ∙ (ap (λ (l : List CellState). is_open (cell_state l other)) (sym is) ∙ first.before other lt);
     }
+
+-- a free cell stays free but for that one, where free cells stay free until nothing is in doubt
+pub free_but_first : (states states' last : List CellState) → states' ≡ settled_states states → StaysFree states states' → StaysFreeBut states' last → StaysFreeBut states last
+free_but_first states states' last is free but cell lt before = ⊎_elim (λ still. inl still) (λ first. inr (first_of_settled states states' cell is first)) (but cell lt (free cell lt before))
 
 -- each cell has a key where each has one once nothing is in doubt
 pub full_of_settled : (states states' : List CellState) → states' ≡ settled_states states → IsFull states' → IsFull states

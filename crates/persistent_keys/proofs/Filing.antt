@@ -1,6 +1,5 @@
 -- A filed store after a change of its cells.
-use Rattle.persistent_keys.proofs.Common.{Absent, Attributes, Content, Doubt, Doubtful, Free, HoldsId, HoldsKey, IsDoubted, IsDoubtedIn, IsFiled, IsOf, IsPut, Keys, List, None, Open, Option, Present, CellState, Some, Stored, TellsCell, [], ap, arith, cases_eq, cell_state, cond, content_at, eq-eqb, false, get_or-map, get_or-set_other, get_or-set_same, has_id, is_open, length, length-set, ne_eqb, of_one_key, refl, set, settled, settled_alike, settled_content, settled_open, settled_state, settled_states, stored, subst, sym, true, ℕ, ⊎_elim, ◌<◌, ◌∙◌, ◌∷◌, ◌≡◌, ◌≢◌}
-use Rattle.key_cells.proofs.Counts.{count_same}
+use Rattle.persistent_keys.proofs.Common.{[], Absent, ap, arith, Attributes, cases_eq, cell_state, CellState, cond, Content, content_at, count_same, Doubt, Doubtful, eq-eqb, false, Free, get_or-map, get_or-set_other, get_or-set_same, has_id, HoldsId, HoldsKey, is_open, IsDoubted, IsDoubtedIn, IsFiled, IsOf, IsPut, Keys, length, length-set, List, ne_eqb, None, of_one_key, Open, Option, Present, refl, set, settled, settled_alike, settled_content, settled_open, settled_state, settled_states, Some, Stored, stored, subst, sym, TellsCell, true, ℕ, ⊎_elim, ◌<◌, ◌∙◌, ◌∷◌, ◌≡◌, ◌≢◌}
 use Rattle.persistent_keys.proofs.Fitting.{tells_open}
 
 -- what is in doubt is in doubt there too

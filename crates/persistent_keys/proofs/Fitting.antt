@@ -1,7 +1,5 @@
 -- An image that fits the contents of a filed store has its keys, and maybe some that are in doubt.
-use Rattle.persistent_keys.proofs.Common.{Absent, Attributes, Content, Doubt, Doubtful, FitsCell, FitsKeys, HasKey, HoldsKey, IsDamaged, IsDoubted, IsFiled, IsOf, Keys, List, Open, Present, CellState, Some, Stored, TellsCell, ap, arith, body, cell_state, content_at, gate, has_id, inl, inr, length, of_one_key, opened_gate, refl, stored, subst, sym, true, ℕ, ⊎_elim, ◌<◌, ◌∙◌, ◌≡◌, ◌⊎◌}
-use Rattle.std.proofs.lemmas.Bool.{eqb-true}
-use Rattle.key_cells.specs.Prelude.{Fits}
+use Rattle.persistent_keys.proofs.Common.{Absent, ap, arith, Attributes, body, cell_state, CellState, Content, content_at, Doubt, Doubtful, eqb-true, Fits, FitsCell, FitsKeys, gate, has_id, HasKey, HoldsKey, inl, inr, IsDamaged, IsDoubted, IsFiled, IsOf, Keys, length, List, of_one_key, Open, opened_gate, Present, refl, Some, Stored, stored, subst, sym, TellsCell, true, ℕ, ⊎_elim, ◌<◌, ◌∙◌, ◌≡◌, ◌⊎◌}
 use Rattle.key_cells.proofs.Finding.{id_of}
 
 -- what is told of an open cell

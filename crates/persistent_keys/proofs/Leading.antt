@@ -1,9 +1,7 @@
 -- How calls of the cells lead from keys to keys.
-use Rattle.persistent_keys.proofs.Common.{Absent, Attributes, Content, CreationFailed, Doubt, Doubtful, FitsKeys, Free, HoldsKey, IfSome, IsDoubted, IsFiled, IsOf, IsPut, Keys, Leads, List, Moves, MovesEither, None, Open, Present, Shows, CellState, Some, StandsForKeys, Stored, Unsure, [], ap, arith, body, cell_state, content_at, creation_of_state, doubt_after, false, gate, get_or-map, get_or-set_same, has_id, inl, inr, is_open, length, length-map, map-set, moves_after_settled, moves_none, moves_settled, of_one_key, refl, set, settled, settled_content, settled_state, settled_states, some_image, stored, subst, sym, true, ℕ, ⊎_elim, ◌<◌, ◌∙◌, ◌∷◌, ◌≡◌}
+use Rattle.persistent_keys.proofs.Common.{[], Absent, ap, arith, Attributes, body, cell_state, CellState, Content, content_at, count_same, creation_of_state, CreationFailed, Doubt, doubt_after, Doubtful, false, FitsKeys, Free, free_set_after, gate, get_or-map, get_or-set_same, has_id, HoldsKey, IfSome, inl, inr, is_open, IsDoubted, IsFiled, IsOf, IsPut, Keys, Leads, length, length-map, List, map-set, Moves, moves_after_settled, moves_none, moves_settled, MovesEither, None, not_free_as, of_one_key, Open, Present, refl, set, settled, settled_content, settled_state, settled_states, Shows, Some, some_image, StandsForKeys, Stored, stored, subst, sym, true, Unsure, ℕ, ⊎_elim, ◌<◌, ◌∙◌, ◌∷◌, ◌≡◌}
 use Rattle.disk_face.specs.declared.Disk as Disk
 use Rattle.key_cells.specs.Contents as cells
-use Rattle.key_cells.proofs.Free.{free_set_after, not_free_as}
-use Rattle.key_cells.proofs.Counts.{count_same}
 use Rattle.key_cells.proofs.Images.{sound_fits}
 use Rattle.persistent_keys.proofs.Fitting.{filed_fits, tells_open}
 use Rattle.persistent_keys.proofs.Filing.{no_doubt, settles, resettles, settled_twice, adds, removes, doubts, still_has, settled_shut, refiled, no_key, none_settled}

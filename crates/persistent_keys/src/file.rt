@@ -2,8 +2,9 @@
 ghost use Rattle.std.specs.Prelude.{◌≡◌, ◌≤◌, ◌<◌, ◌↔◌, ℕ, List, length, set, Bool, [], true, false, None, Some, IfOk, IfErr, IfSome, OnOk, OnErr, IsErrOf, MatchOption, count_by};
 ghost use Rattle.psa_status.specs.Causes.{HasCause, Rose};
 ghost use Rattle.disk_face.specs.Disk.{StillTells};
+ghost use Rattle.key_cells.specs.Contents.{StaysFree, StaysFreeBut};
 ghost use Rattle.key_cells.specs.declared.state.CellState.TheVariants.{Free, Open};
-ghost use Rattle.key_cells.specs.Prelude.{HasNoKey, IsFirstWithKey, IsFirstWithoutKey, IsFull, IsSure, has_id, is_open, creation_of_state, settled_states, cell_state, IsKeyOf, IsOpened, IsOpeningRefused};
+ghost use Rattle.key_cells.specs.Prelude.{Calm, HasNoKey, IsFirstWithKey, IsFirstWithoutKey, IsFull, IsSure, has_id, is_open, creation_of_state, settled_states, cell_state, IsKeyOf, IsOpened, IsOpeningRefused};
 ghost use Rattle.persistent_keys.specs.Files.{stored, Keys, Doubt, AreFound};
 ghost use Rattle.persistent_keys.specs.Calls.{StandsForThese, HasStored, KeepsFile, PutsInFile, LeavesUnmade, LeavesUndestroyed};
 ghost use Rattle.persistent_keys.specs.declared.file.MakeFault.TheVariants.{Disk};
@@ -69,6 +70,7 @@ impl<D: Disk> KeyFile<D> {
         ensures size { D.size self.new.cells.disk ≡ 557120 }
         ensures states { self.new.cells.states ≡ self.old.cells.states }
         ensures same { D.contents self.new.cells.disk ≡ D.contents self.old.cells.disk }
+        ensures calm { Calm D.Disk self.old.cells.disk self.new.cells.disk }
         ensures named { IfOk result (λ attributes. attributes.id.0 ≡ id) }
         ensures key { IfOk result (λ attributes. IsKeyOf attributes (bytes_of out.new)) }
         ensures loaded { IfOk result (λ attributes. HasStored D.Disk self.old id
@@ -103,6 +105,7 @@ impl<D: Disk> KeyFile<D> {
         ensures placed { OnOk result ((cell : ℕ) × IsFirstWithoutKey self.old.cells.states.items cell ×
             (self.new.cells.states.items ≡ set (settled_states self.old.cells.states.items) cell (Open attributes.now.id.0 creation))) }
         ensures unplaced { OnErr result (settled_states self.new.cells.states.items ≡ settled_states self.old.cells.states.items) }
+        ensures free { StaysFreeBut self.old.cells.states.items self.new.cells.states.items }
         ensures tells { StillTells (D.contents self.old.cells.disk) (D.contents self.new.cells.disk) }
         ensures full { IsErrOf result MakeFault.Full ↔ IsFull self.old.cells.states.items }
         ensures nothing { IsErrOf result MakeFault.Full → (self.new.cells.disk ≡ self.old.cells.disk) × (self.new.cells.states ≡ self.old.cells.states) }
@@ -136,6 +139,7 @@ impl<D: Disk> KeyFile<D> {
         ensures states { length self.new.cells.states.items ≡ 512 }
         ensures gone { OnOk result (self.new.cells.states.items ≡ set (settled_states self.old.cells.states.items) cell Free) }
         ensures missing { settled_states self.new.cells.states.items ≡ set (settled_states self.old.cells.states.items) cell Free }
+        ensures free { StaysFree self.old.cells.states.items self.new.cells.states.items }
         ensures destroyed { OnOk result (PutsInFile D.Disk self.old self.new id None) }
         ensures failed { IfErr result (λ fault. LeavesUndestroyed D.Disk self.old self.new id fault.closed_first) }
         ensures unclosed { IfErr result (λ fault. fault.closed_first ≡ false → IsSure self.old.cells.states.items → ⊥) }

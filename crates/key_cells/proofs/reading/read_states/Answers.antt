@@ -16,15 +16,15 @@ loop-cell-preserved g c =
     let e = c.read_cell.ensures in
     let states = c.loop-cell.states.items in
     let cell = c.loop-cell.cell in
-    let state = c.in-Some.state in
+    let state = c.in-Some.read.state in
     let lt : cell < length states = omega arith in
     record {
       size = e.size ∙ i.size;
       count = length-set states cell state ∙ i.count;
-      read = reads_more (d.contents c.args.disk.now) cell states state c.read_cell.new.bytes lt i.read (rw i.calm.same at c.in-Ok.ensures.bytes) c.in-Some.ensures.reads;
-      one = one_more cell states state lt i.one (λ id has. rw c.deref.ensures.value at (c.in-Some.ensures.new id has));
-      numbered = numbered_more cell c.loop-cell.found states state lt i.numbered i.keys c.in-Some.ensures.numbered;
-      named = named_more cell states state lt i.named c.in-Some.ensures.named;
+      read = reads_more (d.contents c.args.disk.now) cell states state c.read_cell.new.bytes lt i.read (rw i.calm.same at c.in-Ok.ensures.bytes) c.in-Some.ensures.0.reads;
+      one = one_more cell states state lt i.one (λ id has. rw c.deref.ensures.value at (c.in-Some.ensures.0.new id has));
+      numbered = numbered_more cell c.loop-cell.found states state lt i.numbered i.keys c.in-Some.ensures.0.numbered;
+      named = named_more cell states state lt i.named c.in-Some.ensures.0.named;
       keys = keys_more cell c.loop-cell.found c.counted-found.result states state lt i.keys c.counted-found.ensures;
       calm = calm_both d c.args.disk.now c.loop-cell.disk c.read_cell.new.disk i.calm (calm_one d c.loop-cell.disk c.read_cell.new.disk e.same e.crash e.time e.cause.later);
     }

@@ -1,5 +1,4 @@
-use Rattle.key_cells.proofs.Common.{HasOneEach, IfSome, IsNamed, IsNumbered, ReadsBelow, count_by, is_open, length, take, ◌≡◌}
-use Rattle.key_cells.specs.Opened.{Calm}
+use Rattle.key_cells.proofs.Common.{Calm, count_by, HasOneEach, IfSome, is_open, IsNamed, IsNumbered, length, ReadsBelow, take, ◌≡◌}
 use Rattle.key_cells.proofs.reading.read_states.Given as goal
 
 abbrev pub invariant-loop-cell : goal.invariant-loop-cell

@@ -1,5 +1,4 @@
-use Rattle.persistent_keys.proofs.Common.{cell_state}
-use Rattle.key_cells.proofs.Counts.{has_id_open}
+use Rattle.persistent_keys.proofs.Common.{cell_state, has_id_open, open_not_free, stays_free_both, stays_free_set, StaysFree, subst, sym, Unsure}
 use Rattle.persistent_keys.proofs.Filing.{still_has}
 use Rattle.persistent_keys.proofs.Directory.{missing_unsure}
 use Rattle.persistent_keys.proofs.Leading.{destroyed_leads, undestroyed_leads, unreached_leads}
@@ -25,3 +24,11 @@ returns-in-Err-destroy-clause-failed g c = λ keys keys' doubt key s there put. 
 
 pub returns-in-Err-clause-missing : goal.returns-in-Err-clause-missing
 returns-in-Err-clause-missing g c = missing_unsure c.args.self.now.cells.states.items c.settle.new.self.states.items c.give_up.new.self.states.items c.args.cell c.settle.ensures.states c.give_up.ensures.states
+
+pub returns-in-Err-clause-free : goal.returns-in-Err-clause-free
+returns-in-Err-clause-free g c =
+    let old = c.args.self.now.cells.states.items in
+    let mid = c.settle.new.self.states.items in
+    let cell = c.args.cell in
+    subst (StaysFree old) (sym c.give_up.ensures.states) (stays_free_both old mid _ c.settle.ensures.free (stays_free_set mid cell Unsure
+    (open_not_free (cell_state mid cell) (has_id_open c.args.id (cell_state mid cell) (still_has old mid c.args.id cell c.requires.states c.requires.within c.settle.ensures.states c.requires.key)))))

@@ -1,5 +1,5 @@
 use Rattle.persistent_keys.proofs.Common.{Err, ap, arith, body_of, refl, ◌∙◌}
-use Rattle.persistent_keys.proofs.Directory.{full_is_sure, full_of_settled, first_of_settled, placed_after}
+use Rattle.persistent_keys.proofs.Directory.{free_but_first, full_is_sure, full_of_settled, first_of_settled, placed_after}
 use Rattle.persistent_keys.proofs.Leading.{keeps_leads, settled_leads, made_leads, unmade_leads, no_key_in}
 use Rattle.persistent_keys.proofs.file.KeyFile.make.Goals as goal
 
@@ -50,3 +50,9 @@ returns-in-Err-Full-clause-nothing g c = λ e.
     let n = c.in-Err-Full.ensures.nothing (ap Err c.in-Err-Full.field-0-is) in
     let idle = c.in-Ok.ensures.idle (full_is_sure c.args.self.now.cells.states.items (full_of_settled c.args.self.now.cells.states.items c.settle.new.self.states.items c.in-Ok.ensures.ok (full.0 (ap Err c.in-Err-Full.field-0-is)))) in
     (n.0 ∙ idle.0, n.1 ∙ idle.1)
+
+pub returns-in-Ok-create-clause-free : goal.returns-in-Ok-create-clause-free
+returns-in-Ok-create-clause-free g c = free_but_first _ _ _ c.in-Ok.ensures.ok c.in-Ok.ensures.free c.create.ensures.free
+
+pub returns-in-Err-Disk-clause-free : goal.returns-in-Err-Disk-clause-free
+returns-in-Err-Disk-clause-free g c = free_but_first _ _ _ c.in-Ok.ensures.ok c.in-Ok.ensures.free c.create.ensures.free

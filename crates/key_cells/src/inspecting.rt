@@ -1,0 +1,149 @@
+// The keys of an image of a store file, without a disk.
+ghost use Rattle.std.specs.Prelude.{◌≡◌, ◌≤◌, ◌<◌, ◌↔◌, ◌⊎◌, ◌+◌, ◌*◌, List, ℕ, length, IfOk, IfErr, OnOk, IsErrOf, IsTrue};
+ghost use Rattle.key_cells.specs.Image.{IsStoreFile, Opens, IsFirstDamaged};
+ghost use Rattle.key_cells.specs.Layout.{part};
+ghost use Rattle.key_cells.specs.Opening.{ReadsKey};
+ghost use Rattle.key_cells.specs.Inspected.{AreKeysOf, IsInspectFaultOf, KeepsKey};
+ghost use Rattle.key_cells.specs.declared.inspecting.InspectFault.TheVariants.{DamagedCell};
+ghost use Rattle.secret_bytes.specs.Buffer.{bytes_of};
+
+use crate::CellState;
+use crate::body::wipe;
+use crate::cells::{CELLS, place};
+use crate::reading::{CellRead, decode, is_header};
+use key_attributes::Attributes;
+use psa_status::Memory;
+use secret_bytes::Secret;
+use std::alloc::Global;
+
+/// A key of an image.
+#[derive(Drop)]
+pub struct FoundKey {
+    pub attributes: Attributes,
+    pub bytes: Secret,
+}
+
+/// Why an image's keys aren't given.
+#[derive(Clone, Copy, Debug, PartialEq, Eq, Drop)]
+pub enum InspectFault {
+    NotAStore,
+    DamagedCell { cell: usize },
+    Memory,
+}
+
+impl From<Memory> for InspectFault {
+    ghost use Rattle.key_cells.specs.declared.inspecting.InspectFault.TheVariants.{Memory};
+
+    ghost from_gives = { λ _ fault. fault ≡ Memory };
+
+    fn from(_memory: Memory) -> InspectFault {
+        InspectFault::Memory
+    }
+}
+
+// Whether an image has the length and the header of a store.
+fn is_store(image: &[u8]) -> bool
+    ensures { IsTrue result ↔ IsStoreFile image.now }
+{
+    image.len() == 557120 && is_header(&head_of(image))
+}
+
+// Its header.
+fn head_of(image: &[u8]) -> [u8; 64]
+    requires { length image.now ≡ 557120 }
+    ensures { result ≡ part 0 64 image.now }
+{
+    let mut head = [0; 64];
+    head.copy_from_slice(&image[..64]);
+    head
+}
+
+// Copies the bytes of a cell.
+fn copy_cell(image: &[u8], cell: usize, room: &mut [u8; 1088])
+    requires size { length image.now ≡ 557120 }
+    requires within { cell < 512 }
+    ensures { room.new ≡ part (64 + 1088 * cell) 1088 image.now }
+{
+    let start = place(cell) as usize;
+    room.copy_from_slice(&image[start..start + 1088]);
+}
+
+// The key with these attributes and bytes.
+fn found_key(alloc: Global, attributes: Attributes, bytes: &[u8]) -> Result<FoundKey, Memory>
+    requires { length bytes.now ≤ 1024 }
+    ensures { IfOk result (λ key. (key.attributes ≡ attributes) × (bytes_of key.bytes ≡ bytes.now)) }
+{
+    let mut secret = Secret::new(alloc)?;
+    secret.fill_from(bytes);
+    Ok(FoundKey {
+        attributes,
+        bytes: secret,
+    })
+}
+
+// Puts the key that was read of a cell behind the others.
+fn keep_key(
+    alloc: Global,
+    keys: &mut Vec<FoundKey>,
+    room: &[u8; 1088],
+    read: &CellRead,
+) -> Result<(), Memory>
+    requires { ReadsKey read.now.key room.now }
+    ensures { OnOk result (KeepsKey read.now.key room.now keys.old.items keys.new.items) }
+{
+    let Some((attributes, end)) = read.key else {
+        return Ok(());
+    };
+    let key = found_key(alloc, attributes, &room[52..end])?;
+    match keys.push(key) {
+        Ok(()) => Ok(()),
+        Err(_) => Err(Memory),
+    }
+}
+
+/// The keys of an image, in the order of their cells. `NotAStore` exactly where its length or header is no store's; else
+/// `DamagedCell` names its first damaged cell, or all keys are given, but for `Memory`. What isn't given is wiped.
+pub fn inspect(alloc: Global, image: &[u8]) -> Result<Vec<FoundKey>, InspectFault>
+    ensures opens { OnOk result (Opens image.now) }
+    ensures keys { IfOk result (λ keys. AreKeysOf keys.items image.now) }
+    ensures fault { IfErr result (λ fault. IsInspectFaultOf fault image.now) }
+    ensures opened { Opens image.now → IfErr result (λ fault. fault ≡ InspectFault.Memory) }
+    ensures no_store { (IsStoreFile image.now → ⊥) → IsErrOf result InspectFault.NotAStore }
+    ensures damaged { (cell : ℕ) → IsFirstDamaged image.now cell → IsErrOf result (DamagedCell cell) ⊎ IsErrOf result InspectFault.Memory }
+{
+    if !is_store(image) {
+        return Err(InspectFault::NotAStore);
+    }
+    let mut room = [0; 1088];
+    let read = read_keys(alloc, image, &mut room);
+    wipe(&mut room);
+    read
+}
+
+// The keys of a store's image. The bytes of the last cell are left in the room.
+fn read_keys(
+    alloc: Global,
+    image: &[u8],
+    room: &mut [u8; 1088],
+) -> Result<Vec<FoundKey>, InspectFault>
+    requires store { IsStoreFile image.now }
+    ensures opens { OnOk result (Opens image.now) }
+    ensures keys { IfOk result (λ keys. AreKeysOf keys.items image.now) }
+    ensures fault { IfErr result (λ fault. IsInspectFaultOf fault image.now) }
+    ensures store { IsErrOf result InspectFault.NotAStore → ⊥ }
+{
+    let mut states = match vec![in alloc; CellState::Free; 512] {
+        Ok(states) => states,
+        Err(_) => return Err(InspectFault::Memory),
+    };
+    let mut keys = Vec::new(alloc);
+    for cell in 0..CELLS {
+        copy_cell(image, cell, room);
+        let Some(read) = decode(room, &states[..cell], keys.len() as u64) else {
+            return Err(InspectFault::DamagedCell { cell });
+        };
+        keep_key(alloc, &mut keys, room, &read)?;
+        states[cell] = read.state;
+    }
+    Ok(keys)
+}
