@@ -1,10 +1,6 @@
 -- A store with one key more.
 use Rattle.std.proofs.Common.{ne_eqb, Bool, List, None, Option, Some, [], ap, arith, cond, eq-eqb, false, inl, inr, length, nat_lt, refl, set, slice_index, slice_set, subst, sym, true, ℕ, ◌+◌, ◌/◌, ◌<◌, ◌==◌, ◌^◌, ◌∙◌, ◌≡◌, ◌≢◌, ◌≤◌, ◌⊎◌}
-use Rattle.store_core.proofs.Common.{Attributes, Free, HeldKey, HeldKeys, HoldsHandle, HoldsKeys, IsDirectory, IsFirstWithoutKey, IsPut, IsSomeKey, IsSoundStore, IsStated, IsThereOrNew, Key, Lacks, MayBeKept, Open, Puts, SlotHasKey, bytes-buffer_of, cases_eq, cell_state, count_persistent, counted, created, durable_keys, false≢true, full_slot, held_key, identified, is_opaque, is_open, is_volatile, is_volatile_of, kept, len_kept-insert, length-map, live_volatile, made_of, made_with, nat_cmp_total, new_id, new_is_free, new_key, of_volatile, put, room_of, settled_state, settled_states, stated_id, stored, unsigned_tied, with_held_key}
-use Rattle.std.proofs.lemmas.Bool.{le-ltb, lt-ltb, eqb-true}
-use Rattle.std.proofs.lemmas.Option.{none-some, same_Some}
-use Rattle.std.proofs.lemmas.List.{get_or-set_same, get_or-set_other}
-use Rattle.std.specs.Option.{option_map}
+use Rattle.store_core.proofs.Common.{Attributes, bytes-buffer_of, cases_eq, cell_state, count_persistent, counted, created, durable_keys, eqb-true, false≢true, Free, full_slot, get_or-set_other, get_or-set_same, held_key, HeldKey, HeldKeys, HoldsHandle, HoldsKeys, identified, is_opaque, is_open, is_volatile, is_volatile_of, IsDirectory, IsFirstWithoutKey, IsPut, IsSomeKey, IsSoundStore, IsStated, IsThereOrNew, kept, Key, Lacks, le-ltb, len_kept-insert, length-map, live_volatile, lt-ltb, made_of, made_with, MayBeKept, nat_cmp_total, new_id, new_is_free, new_key, none-some, of_volatile, Open, option_map, put, Puts, room_of, same_Some, settled_state, settled_states, SlotHasKey, stated_id, stored, unsigned_tied, with_held_key}
 use Rattle.std.specs.FinMap as map
 use Rattle.key_cells.specs.declared.state.CellState as cell
 use Rattle.store_model.specs.Store as model

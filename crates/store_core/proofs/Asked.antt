@@ -1,25 +1,17 @@
 -- What a creation records, as the store's counts have it.
 use Rattle.std.proofs.Common.{ne_eqb, Bool, Err, List, None, Ok, Option, Result, Some, ap, cond, eq-eqb, false, inl, inr, is_some, nat_le, not, refl, true, ℕ, ◌%◌, ◌&&◌, ◌<◌, ◌^◌, ◌||◌, ◌∙◌, ◌≡◌, ◌≢◌, ◌≤◌, ◌⊎◌}
-use Rattle.store_core.proofs.Common.{AlreadyExists, Attributes, InsufficientStorage, KeyLimit, Label, NotSupported, Status, after_rules, checked, count_persistent, first_row, has_secure_element, is_volatile, live_volatile, made_of, recorded_of, room_for_key_rows, unless}
-use Rattle.std.proofs.lemmas.Bool.{le-leb, lt-leb, or_right}
+use Rattle.store_core.proofs.Common.{after_rules, AlreadyExists, Attributes, checked, count_persistent, first_row, has_secure_element, InsufficientStorage, is_volatile, KeyLimit, Label, le-leb, live_volatile, lt-leb, made_of, or_right, recorded_of, room_for_key_rows, Status, unless}
 use Rattle.std.specs.FinMap as map
 use Rattle.psa_status.specs.Rows.{◌>>=◌}
 use Rattle.store_model.specs.Store as model
 
--- what is recorded where there is a file
+-- what is recorded, with such an element and labels
 abbrev pub asked : model.Store → ℕ → Attributes → ℕ → Bool → List Label → Result Attributes Status
 asked m caller a n element labels = checked a n element >>= (λ filled. after_rules labels filled >>= (λ kept. unless (first_row (room_for_key_rows m caller kept)) kept))
 
-pub asks : (m : model.Store) (caller : ℕ) (a : Attributes) (n : ℕ) (element : Bool) (labels : List Label) → m.settings.has_file ≡ true → has_secure_element m ≡ element → m.settings.labels ≡ labels →
+pub asks : (m : model.Store) (caller : ℕ) (a : Attributes) (n : ℕ) (element : Bool) (labels : List Label) → has_secure_element m ≡ element → m.settings.labels ≡ labels →
     recorded_of m caller a n ≡ asked m caller a n element labels
-asks m caller a n element labels file driver rules =
-    ap (λ b. unless (cond b (Some NotSupported) None) a
-    >>= (λ stated. checked stated n (has_secure_element m) >>= (λ filled. after_rules m.settings.labels filled >>= (λ kept. unless (first_row (room_for_key_rows m caller kept)) kept)))) (passes (is_volatile a) m.settings.has_file file)
-    ∙ (ap (λ b. asked m caller a n b m.settings.labels) driver ∙ ap (asked m caller a n element) rules)
-  where
-    passes : (b f : Bool) → f ≡ true → not (b || f) ≡ false
-    passes true f is = refl
-    passes false f is = ap not is
+asks m caller a n element labels driver rules = ap (λ b. asked m caller a n b m.settings.labels) driver ∙ ap (asked m caller a n element) rules
 
 module _ (m : model.Store) (caller : ℕ) (a : Attributes) (n : ℕ) (element : Bool) (labels : List Label) where
   pub unchecked : (status : Status) → checked a n element ≡ Err status → asked m caller a n element labels ≡ Err status
@@ -67,18 +59,11 @@ module _ (m : model.Store) (caller : ℕ) (a : Attributes) where
   limited live made volatile lives makes is = rows (is_volatile a) there_is limit_is full_is true there_is true full_is (eq-eqb (a.lifetime.0 % 2 ^ 8) 0 volatile) refl
       (ap (λ n. nat_le 16 n || nat_le (2 ^ 20) (made_of m caller)) lives ∙ (ap (λ n. nat_le 16 live || nat_le (2 ^ 20) n) makes ∙ many live made is)) refl
 
-  pub unlimited : (live made : ℕ) → a.lifetime.0 % 2 ^ 8 ≡ 0 → live_volatile m.keys caller ≡ live → made_of m caller ≡ made → live < 16 → made < 2 ^ 20 → here ≡ None
-  unlimited live made volatile lives makes alive all = rows (is_volatile a) there_is limit_is full_is true there_is false full_is (eq-eqb (a.lifetime.0 % 2 ^ 8) 0 volatile) refl
-      (ap (λ n. nat_le 16 n || nat_le (2 ^ 20) (made_of m caller)) lives ∙ (ap (λ n. nat_le 16 live || nat_le (2 ^ 20) n) makes ∙ few live made alive all)) refl
-
   lasts : a.lifetime.0 % 2 ^ 8 ≢ 0 → is_volatile a ≡ false
   lasts not = ne_eqb (a.lifetime.0 % 2 ^ 8) 0 not
 
   pub exists : a.lifetime.0 % 2 ^ 8 ≢ 0 → there_is ≡ true → here ≡ Some AlreadyExists
   exists not is = rows (is_volatile a) there_is limit_is full_is false true limit_is full_is (lasts not) is refl refl
-
-  pub crowded : (kept : ℕ) → a.lifetime.0 % 2 ^ 8 ≢ 0 → there_is ≡ false → count_persistent m.keys ≡ kept → 512 ≤ kept → here ≡ Some InsufficientStorage
-  crowded kept not none count is = rows (is_volatile a) there_is limit_is full_is false false limit_is true (lasts not) none refl (ap (nat_le 512) count ∙ le-leb 512 kept is)
 
   pub fits : (kept : ℕ) → a.lifetime.0 % 2 ^ 8 ≢ 0 → there_is ≡ false → count_persistent m.keys ≡ kept → kept < 512 → here ≡ None
   fits kept not none count is = rows (is_volatile a) there_is limit_is full_is false false limit_is false (lasts not) none refl (ap (nat_le 512) count ∙ lt-leb 512 kept is)

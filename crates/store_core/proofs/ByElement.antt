@@ -1,7 +1,6 @@
 -- Turns in which the secure element computes.
 use Rattle.std.proofs.Common.{inl, Bool, Err, IsErrOf, IsTrue, List, MatchOption, None, Ok, Option, Result, Some, [], ap, cond, false, is_some, length, not, refl, subst, sym, true, ℕ, ◌&&◌, ◌++◌, ◌==◌, ◌||◌, ◌∙◌, ◌∷◌, ◌≡◌}
-use Rattle.store_core.proofs.Common.{AnswersCall, Attributes, Call, Entry, Failed, FaultCounts, FaultMark, Hardware, HasFault, HeldKey, HeldKeys, HoldsHandle, IsElementAnswered, IsComputed, IsEntry, IsOfElement, IsSomeKey, IsSoundStore, IsTold, IsVolatileKey, Key, MayBeMarked, OnStore, Opening, Pairs, Refused, Rose, Service, StandsFor, Status, Store, algorithm_asked, all_rows, attribute_rows, buffer_after, checked, class_asked, counted, element_reply, filled, first_row, first_row-back, first_row-front, fits_type, has_secure_element, held_key, identified, is_opaque, is_opaque_key, is_volatile, key_rows, last_counts, location, mark_computed, marked_reply, may_change_keys, model_call, none_holds, persistence, refusal, replay, reply_on, reply_to, reply_unless, rows_before, unless, unless-ok, usage_asked, use_rows}
-use Rattle.std.proofs.lemmas.Bool.{eqb-true, false_from_ne_true, not-false, true_from_ne_false}
+use Rattle.store_core.proofs.Common.{algorithm_asked, all_rows, AnswersCall, attribute_rows, Attributes, buffer_after, Call, checked, class_asked, Corrupt, counted, Disk, element_reply, Entry, eqb-true, Failed, false_from_ne_true, false≢true, FaultCounts, FaultMark, filled, first_row, first_row-back, first_row-front, fits_type, Hardware, has_secure_element, HasFault, held_key, HeldKey, HeldKeys, HoldsHandle, identified, InvalidHandle, is_opaque, is_opaque_key, is_persistent_key, is_volatile, IsComputed, IsElementAnswered, IsEntry, IsOfElement, IsRefused, IsSomeKey, IsSoundStore, IsTold, IsVolatileKey, Key, key_rows, KeyUse, last_counts, location, mark_computed, marked_reply, may_change_keys, MayBeMarked, Missing, model_call, none_holds, not-false, OnStore, Opening, Pairs, persistence, refusal, Refused, replay, reply_on, reply_to, reply_unless, Rose, rows_before, Service, StandsFor, Status, status_of, Store, true_from_ne_false, unless, unless-ok, Unread, usage_asked, use_refusal, use_rows}
 use Rattle.disk_face.specs.declared.Disk as Disk
 use Rattle.driver_dispatch.specs.declared.devices.Devices as Devices
 use Rattle.admission.specs.declared.rules.Admission as Admission
@@ -12,6 +11,7 @@ use Rattle.secure_element_calls.specs.declared.calls.ElementCall.{ElementCall}
 use Rattle.secure_element_calls.specs.declared.calls.ElementCall.TheVariants.{MacCompute, MacVerify, CtrEncrypt, CtrDecrypt}
 use Rattle.secure_element_calls.specs.declared.calls.NotComputed.{NotComputed}
 use Rattle.secure_element_calls.proofs.Replying.{asks}
+use Rattle.store_core.proofs.Missing.{is_other}
 use Rattle.store_core.proofs.Histories.{told_before, quiet_leaves}
 use Rattle.store_core.proofs.Holding.{turned, carries, left_alone}
 use Rattle.store_core.proofs.Changing.{ends_quiet}
@@ -53,6 +53,26 @@ has_slot m id sound opaque = by_key (map.get m.keys id) refl opaque
 pub not_opaque : (m : model.Store) (id : ℕ) → IsSoundStore m → (IsVolatileKey (map.get m.keys id) → ⊥) → is_opaque_key (map.get m.keys id) ≡ false
 not_opaque m id sound none = false_from_ne_true (is_opaque_key (map.get m.keys id)) (λ opaque. none (has_slot m id sound opaque))
 
+-- nor is that of a look which was refused before its key was found
+module _ (wanted : KeyUse) (id : ℕ) (m : model.Store) (sound : IsSoundStore m) where
+  not_of : (key : Key) → map.get m.keys id ≡ Some key → is_opaque key.attributes ≡ true → (why : Unread) → IsRefused (use_refusal wanted) id (status_of why) m → ⊥
+  not_of key there opaque why refused = by why refused
+    where
+      lasts : is_persistent_key (map.get m.keys id) ≡ true → ⊥
+      lasts persistent = false≢true (sym (ap not (opaque_is_volatile m id key there sound opaque)) ∙ (sym (ap is_persistent_key there) ∙ persistent))
+
+      by : (why : Unread) → IsRefused (use_refusal wanted) id (status_of why) m → ⊥
+      by Missing row = is_other wanted key InvalidHandle (sym (ap (use_refusal wanted) there) ∙ row) refl
+      by Disk persistent = lasts persistent
+      by Corrupt persistent = lasts persistent
+
+  pub unread_local : (why : Unread) → IsRefused (use_refusal wanted) id (status_of why) m → is_opaque_key (map.get m.keys id) ≡ true → ⊥
+  unread_local why refused opaque = by (map.get m.keys id) refl opaque
+    where
+      by : (o : Option Key) → map.get m.keys id ≡ o → is_opaque_key o ≡ true → ⊥
+      by None there is = cc
+      by (Some key) there is = not_of key there is why refused
+
 -- WHAT THE KEY'S ROWS LEAVE OPEN
 
 module _ (call : ElementCall) (key : Key) (none : first_row (key_rows call (Some key)) ≡ None) where
@@ -83,15 +103,16 @@ held_of key = record { key_type = key.attributes.key_type.0; bytes = key.bytes }
 
 -- what the element computed is the answer
 pub answered : (held : Option HeldKeys) (id : ℕ) (call : ElementCall) (old new : List ℕ) (result : Result ℕ NotComputed) (m : model.Store) (key : Key) (handle : ℕ) →
-    map.get m.keys id ≡ Some key → HoldsHandle held handle (λ h. h ≡ held_of key) → first_row (key_rows call (Some key)) ≡ None →
+    is_opaque_key (map.get m.keys id) ≡ true → map.get m.keys id ≡ Some key → HoldsHandle held handle (λ h. h ≡ held_of key) → first_row (key_rows call (Some key)) ≡ None →
     IsComputed held handle call old new result → IsElementAnswered held id call old new result m
-answered held id call old new result m key handle there is none computed =
+answered held id call old new result m key handle opaque there is none computed =
     let room : ℕ = length old in
     let rows : first_row (rows_before call room) ≡ first_row (all_rows call room (map.get m.keys id)) =
     sym (first_row-back (key_rows call (Some key)) (rows_before call room) none) ∙ ap (λ found. first_row (all_rows call room found)) (sym there) in
     let reply : reply_to call result key.bytes room ≡ marked_reply (mark_computed result) (reply_on call room (map.get m.keys id)) =
     ap (marked_reply (mark_computed result)) (ap (λ o. reply_unless o (element_reply call key.bytes room)) (sym none) ∙ ap (reply_on call room) (sym there)) in
     record {
+      opaque = opaque;
       decided = subst (λ o. MatchOption o (IsOfElement call result) (λ status. result ≡ Err (Refused status))) rows computed.decided;
       reply = λ tells. subst (AnswersCall call result) reply (told_key held handle (λ k. AnswersCall call result (reply_to call result k.bytes room)) (held_of key) computed.reply is tells);
       buffer = λ tells. told_key held handle (λ k. new ≡ buffer_after old (reply_to call result k.bytes room)) (held_of key) computed.buffer is tells ∙ ap (buffer_after old) reply;
@@ -102,8 +123,8 @@ answered held id call old new result m key handle there is none computed =
 
 -- a row of the key refuses
 pub unused : (held : Option HeldKeys) (id : ℕ) (call : ElementCall) (old : List ℕ) (m : model.Store) (key : Key) (status : Status) →
-    map.get m.keys id ≡ Some key → first_row (key_rows call (Some key)) ≡ Some status → IsElementAnswered held id call old old (Err (Refused status)) m
-unused held id call old m key status there refused =
+    is_opaque_key (map.get m.keys id) ≡ true → map.get m.keys id ≡ Some key → first_row (key_rows call (Some key)) ≡ Some status → IsElementAnswered held id call old old (Err (Refused status)) m
+unused held id call old m key status opaque there refused =
     let room : ℕ = length old in
     let result : Result ℕ NotComputed = Err (Refused status) in
     let rows : Some status ≡ first_row (all_rows call room (map.get m.keys id)) =
@@ -111,6 +132,7 @@ unused held id call old m key status there refused =
     let reply : refusal status ≡ reply_on call room (map.get m.keys id) =
     ap (λ o. reply_unless o (element_reply call key.bytes room)) (sym refused) ∙ ap (reply_on call room) (sym there) in
     record {
+      opaque = opaque;
       decided = subst (λ o. MatchOption o (IsOfElement call result) (λ status. result ≡ Err (Refused status))) rows refl;
       reply = λ tells. subst (AnswersCall call result) reply (refl, refl);
       buffer = λ tells. ap (buffer_after old) reply;

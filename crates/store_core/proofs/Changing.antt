@@ -1,13 +1,14 @@
 -- A ranked turn that changes keys.
-use Rattle.std.proofs.Common.{List, Option, [], ap, arith, inl, inr, is_some, length-append, slice_index, subst, sym, true, ℕ, ⊎_elim, ◌++◌, ◌+◌, ◌∙◌, ◌∷◌, ◌≡◌, ◌≤◌, ◌⊎◌, None, refl}
-use Rattle.store_core.proofs.Common.{Agrees, AreHoldings, Course, Entry, FaultCounts, FaultMark, FitsCourse, FitsKeys, HasFault, Holds, HoldsKeys, IsCaused, IsDirectory, IsEntry, IsSoundStore, IsSure, IsTold, KeyFile, KeySlots, Leads, LeavesKeys, MayBeMarked, Opening, Pairs, Plain, Service, StandsFor, StandsForKeys, Store, Within, after, allowed_go_on, count_persistent, counted, counted_sound, course_of, doubt_after, durable_keys, go_on, key_changed, last_counts, live_volatile, opened, outcome_of, promise_goes_on, quiet, replay, stands_fits, stays}
+use Rattle.std.proofs.Common.{List, Option, [], ap, arith, false, inl, inr, is_some, length-append, slice_index, subst, sym, true, ℕ, ⊎_elim, ◌++◌, ◌+◌, ◌<◌, ◌∙◌, ◌∷◌, ◌≡◌, ◌≤◌, ◌⊎◌, None, refl}
+use Rattle.store_core.proofs.Common.{after, Agrees, allowed_go_on, AreHoldings, cell_state, ChangesFreed, count_persistent, counted, counted_sound, Course, course_of, doubt_after, durable_keys, Entry, FaultCounts, FaultMark, FitsCourse, FitsKeys, Free, go_on, HasFault, HasZeros, HaveFreed, Holds, HoldsKeys, is_destruction, is_persistent_key, IsCaused, IsDirectory, IsEntry, IsFreeSince, IsSoundStore, IsSure, IsTold, key_changed, KeyFile, KeySlots, last_counts, Leads, LeavesKeys, live_volatile, MayBeMarked, opened, Opening, outcome_of, Pairs, Plain, promise_goes_on, quiet, replay, Service, stands_fits, StandsFor, StandsForKeys, stays, Store, Within, ⊤}
 use Rattle.disk_face.specs.declared.Disk as Disk
 use Rattle.driver_dispatch.specs.declared.devices.Devices as Devices
 use Rattle.admission.specs.declared.rules.Admission as Admission
-use Rattle.std.specs.Prelude.{⊤}
 use Rattle.store_model.specs.Store as model
 use Rattle.store_core.proofs.Histories.{replay_push, counts_push, told_before, course_service, course_push, quiet_doubt}
 use Rattle.store_core.proofs.Holding.{counts_of, same_device, same_directory, turned}
+use Rattle.store_core.proofs.Wiped.{shows_free}
+use Rattle.store_core.proofs.Freeing.{MovesFree, freed_push, frees, unmoved}
 
 -- what is told of one disk is told of another that tells as much
 pub retold : (old new : Option (List ℕ)) (start : Service) (h : List Entry) → is_some new ≡ is_some old → IsTold new start h → IsTold old start h
@@ -38,6 +39,8 @@ module _ {D A C : Type 0} (disks : Disk.Ghosts D) (elements : Devices.Ghosts A) 
     pub tells : is_some (disks.contents new.file.cells.disk) ≡ is_some (disks.contents old.file.cells.disk)
     pub leads : (s : Course) → S s.service → m ≡ s.service.store → StandsForKeys disks old.file.cells.disk old.file.cells.states.items (durable_keys m) s.doubt →
         Leads disks old.file.cells.disk new.file.cells.disk old.file.cells.states.items new.file.cells.states.items (durable_keys m) s.doubt (durable_keys m') (doubt_after e s)
+    pub frees : (service : Service) → S service → m ≡ service.store →
+        MovesFree (is_persistent_key (key_changed service e.caller e.call)) (is_destruction e.call) mark old.file.cells.states.items new.file.cells.states.items
     -- where nothing is in doubt afterwards, no cell is
     pub settles : (s : Course) → S s.service → m ≡ s.service.store → (s.doubt ≡ [] → IsSure old.file.cells.states.items) → doubt_after e s ≡ [] → IsSure new.file.cells.states.items
     pub fault : HasFault (is_some (disks.contents new.file.cells.disk)) before e mark
@@ -93,6 +96,9 @@ module _ {D A C : Type 0} (disks : Disk.Ghosts D) (elements : Devices.Ghosts A) 
         each = λ at image le left. ⊎_elim (λ had. inl had) (λ fits. inr (⊎_elim (λ f. inl (fits_old image f)) (λ f. inr (fits_new image f)) fits)) (leads_here.within.each at image le left);
       }
 
+      free_now : (cell : ℕ) → cell < 512 → cell_state new.file.cells.states.items cell ≡ Free → (image : List ℕ) → disks.left_since now (disks.moment now) image → HasZeros cell image
+      free_now cell lt free image left = shows_free _ _ _ _ free ((leads_here.stands.stands.each image (only_now now image left)).each cell lt)
+
       fits_now : (image : List ℕ) → disks.left_since now (disks.moment now) image → FitsCourse (after e course) image
       fits_now image left =
           fits_new image (stands_fits disks now new.file.cells.states.items (durable_keys m') (doubt_after e course) image leads_here.stands (only_now now image left))
@@ -103,14 +109,27 @@ module _ {D A C : Type 0} (disks : Disk.Ghosts D) (elements : Devices.Ghosts A) 
         counted_here : counts_of e.faults e.device_faults ≡ counts_of (disks.faults now) (elements.faults new.devices)
         counted_here = ap (λ (n : ℕ). counts_of n e.device_faults) is.disk_faults ∙ ap (counts_of (disks.faults now)) is.device_faults
 
+        freed_here : is_some (disks.contents now) ≡ true → HaveFreed (IsFreeSince disks now new.file.cells.states.items) start (h ++ e ∷ [])
+        freed_here tells =
+            let past_freed = s.freed (tells_before tells) in
+            let service = replay start h in
+            let then = frees disks past now old.file.cells.states.items new.file.cells.states.items (leads_here tells).zeros (free_now tells) (is_persistent_key (key_changed service e.caller e.call)) (is_destruction e.call) mark
+            (t.frees service (holds_before (inl tells)) (s.replayed (know (inl tells)))) past_freed.0 past_freed.2 in (
+              then.0,
+              freed_push start h e [] past_freed.0 then.0 past_freed.1
+                  (subst (λ (x : FaultMark). ChangesFreed (is_persistent_key (key_changed service e.caller e.call)) (is_destruction e.call) x e.done past_freed.0 then.0) (sym is.marked)
+                  (subst (λ (n : ℕ). ChangesFreed (is_persistent_key (key_changed service e.caller e.call)) (is_destruction e.call) mark n past_freed.0 then.0) (sym is.done) then.1)),
+              then.2,
+            )
+
         holds : Holds disks elements admits Known new start opening (h ++ e ∷ []) more
         holds = record {
           model = m';
           replayed = λ k. t.becomes (replay start h) (holds_before k) (s.replayed (know k)) ∙ ap (λ (x : Service). x.store) (sym (replay_push start h e));
           sound = t.sound;
+          settings = ap (λ (x : model.Store). x.settings) t.counts ∙ s.settings;
           labels_are = ap (λ (x : model.Store). x.settings.labels) t.counts ∙ (s.labels_are ∙ sym (ap admits.labels t.goes_on.rules));
           locations_are = ap (λ (x : model.Store). x.settings.locations) t.counts ∙ (s.locations_are ∙ sym t.places);
-          has_file = ap (λ (x : model.Store). x.settings.has_file) t.counts ∙ s.has_file;
           found = ap (λ (x : model.Store). x.found) t.counts ∙ (s.found ∙ sym t.goes_on.found);
           few = subst (λ n. n ≤ 512) (sym t.goes_on.found) s.few;
           calls = ap (λ (x : model.Store). x.calls) t.counts ∙ (ap (λ n. n + 1) s.calls ∙ sym t.goes_on.ranked);
@@ -126,6 +145,7 @@ module _ {D A C : Type 0} (disks : Disk.Ghosts D) (elements : Devices.Ghosts A) 
           sure = λ tells none. t.settles course (before_course tells) (of_course tells) (s.sure (tells_before tells)) (sym (ap (λ (c : Course). c.doubt) (course_push start h e)) ∙ none);
           promise = λ tells. promise_goes_on after FitsCourse (opened start) (λ (x : Entry). x.done) (disks.left_since past) (disks.left_since now) (disks.moment past) (disks.moment now) opening.moment h e (s.promise (tells_before tells))
               (within_here tells) (fits_now tells) is.done;
+          freed = freed_here;
           caused = go_on (is_some (disks.contents now)) opening.counts h e (subst (λ b. IsCaused b opening.counts h) (sym t.tells) s.caused)
               (subst (HasFault (is_some (disks.contents now)) (last_counts opening.counts h) e) (sym is.marked) t.fault);
           allowed = λ k. allowed_go_on start h e (s.allowed (before k)) (subst (MayBeMarked (replay start h) e.caller e.call) (sym is.marked) (t.may (replay start h) (holds_before k) (s.replayed (know k))));
@@ -158,8 +178,9 @@ module _ {D A C : Type 0} (disks : Disk.Ghosts D) (elements : Devices.Ghosts A) 
         ((c : Course) → S c.service → s.model ≡ c.service.store → StandsForKeys disks old.file.cells.disk old.file.cells.states.items (durable_keys s.model) c.doubt →
         Leads disks old.file.cells.disk file.cells.disk old.file.cells.states.items file.cells.states.items (durable_keys s.model) c.doubt (durable_keys s.model) (doubt_after e c)) →
         ((c : Course) → S c.service → s.model ≡ c.service.store → (c.doubt ≡ [] → IsSure old.file.cells.states.items) → doubt_after e c ≡ [] → IsSure file.cells.states.items) →
+        ((service : Service) → S service → s.model ≡ service.store → MovesFree (is_persistent_key (key_changed service e.caller e.call)) (is_destruction e.call) mark old.file.cells.states.items file.cells.states.items) →
         IsEntry disks elements admits (ended file) mark e → (n : StandsFor disks elements admits (ended file) start opening (h ++ e ∷ []) more) × (n.holds.model ≡ counted s.model)
-    unmade file directory tells leads settles is =
+    unmade file directory tells leads settles frees is =
         let told = retold (disks.contents old.file.cells.disk) (disks.contents file.cells.disk) start (h ++ e ∷ []) tells in
         turns disks elements admits only_now S K old (ended file) start opening h all more e mark (counted s.model) s (λ k. know (told k)) (λ k. holds_before (told k)) (record {
           becomes = λ service known at. ap counted at ∙ sym (counts service known);
@@ -176,18 +197,20 @@ module _ {D A C : Type 0} (disks : Disk.Ghosts D) (elements : Devices.Ghosts A) 
           device = device;
           tells = tells;
           leads = leads;
+          frees = frees;
           settles = settles;
           fault = subst (λ b. HasFault b (last_counts opening.counts h) e mark) (sym tells) fault;
           may = may;
         }) is
 
     -- nor the file
-    pub leaves : ((c : Course) → S c.service → doubt_after e c ≡ c.doubt) →
+    pub leaves : ((c : Course) → S c.service → doubt_after e c ≡ c.doubt) → ((service : Service) → S service → (is_persistent_key (key_changed service e.caller e.call) ≡ false) ⊎ (is_destruction e.call ≡ false)) →
         IsEntry disks elements admits (ended old.file) mark e → (n : StandsFor disks elements admits (ended old.file) start opening (h ++ e ∷ []) more) × (n.holds.model ≡ counted s.model)
-    leaves doubts = unmade old.file s.directory refl
+    leaves doubts keeps = unmade old.file s.directory refl
         (λ c known at stands. subst (Leads disks old.file.cells.disk old.file.cells.disk old.file.cells.states.items old.file.cells.states.items (durable_keys s.model) c.doubt (durable_keys s.model)) (sym (doubts c known))
         (stays disks old.file.cells.disk old.file.cells.states.items (durable_keys s.model) (durable_keys s.model) c.doubt (λ q. refl) stands))
         (λ c known at sure none. sure (sym (doubts c known) ∙ none))
+        (λ service known at. unmoved (is_persistent_key (key_changed service e.caller e.call)) (is_destruction e.call) mark old.file.cells.states.items (keeps service known))
 
   -- one whose request leaves all keys
   pub ends_quiet : {more : List Pairs} {K : Type 0} (mark : FaultMark) (slots : KeySlots) (s : Holds disks elements admits K old start opening h all) → (IsTold (disks.contents old.file.cells.disk) start (h ++ e ∷ []) → K) →
@@ -199,6 +222,7 @@ module _ {D A C : Type 0} (disks : Disk.Ghosts D) (elements : Devices.Ghosts A) 
       (λ service known. subst (λ (x : Service). (outcome_of x e).service.store ≡ counted x.store) (sym known.0) (still.counted_only known.1)) agrees holdings refl (same_device (elements.keys old.devices) s.model s.device) fault
       (λ service known at. subst (λ (x : Service). MayBeMarked x e.caller e.call mark) (sym known.0) (may known.1))
       (λ c known. quiet_doubt e c (subst (λ (x : Service). key_changed x e.caller e.call ≡ None) (sym known.0) (still.changes_none known.1)))
+      (λ service known. inl (ap is_persistent_key (subst (λ (x : Service). key_changed x e.caller e.call ≡ None) (sym known.0) (still.changes_none known.1))))
 
   -- and leaves the file, of a store that stands for something
   pub counts_on : (s : StandsFor disks elements admits old start opening h all) (slots : KeySlots) → Agrees slots.table.slots s.holds.model all → LeavesKeys disks elements admits old start h e → IsEntry disks elements admits (turned disks elements admits old slots) Plain e →

@@ -1,8 +1,6 @@
 -- What the table of creations has decided of a key that is to be made.
 use Rattle.std.proofs.Common.{⊎_elim, sym, ne_eqb, Bool, List, None, Ok, Some, ap, arith, bit_and, cond, eq-eqb, false, is_some, length, nat_lt, not, refl, subst, sym, true, ℕ, ◌%◌, ◌&&◌, ◌*◌, ◌/◌, ◌<◌, ◌==◌, ◌^◌, ◌||◌, ◌∙◌, ◌≡◌, ◌≢◌, ◌≤◌}
-use Rattle.store_core.proofs.Common.{Agrees, Attributes, HasNoKey, InvalidArgument, IsDirectory, IsFull, IsKeyOf, IsSoundStore, IsStated, NoKey, NotSupported, Open, Pairs, Slot, attribute_rows, cell_state, checked, count_persistent, creation_of_state, false≢true, filled, first_row, full_within, has_id, has_secure_element, holds_key, implied_usage, is_key_type, is_lifetime, is_opaque, is_open, is_volatile, key_is_full, key_of_slot, location, low_id, nat_tests, none_holds, permits_size, persistence, ranked, size_rows, slot_at, stated_id, unless, unless-ok}
-use Rattle.std.proofs.lemmas.Bool.{and_from, and_parts, or_cases, eqb-true, false_from_ne_true, lt-ltb, not-false}
-use Rattle.std.proofs.lemmas.Option.{none-some}
+use Rattle.store_core.proofs.Common.{Agrees, and_from, and_parts, attribute_rows, Attributes, cell_state, checked, count_persistent, creation_of_state, eqb-true, false_from_ne_true, false≢true, filled, first_row, full_within, has_id, has_secure_element, HasNoKey, holds_key, implied_usage, InvalidArgument, is_key_type, is_lifetime, is_opaque, is_open, is_volatile, IsDirectory, IsFull, IsKeyOf, IsSoundStore, IsStated, key_is_full, key_of_slot, location, low_id, lt-ltb, nat_tests, NoKey, none-some, none_holds, not-false, NotSupported, Open, or_cases, Pairs, permits_size, persistence, ranked, size_rows, Slot, slot_at, stated_id, unless, unless-ok}
 use Rattle.std.specs.declared.cmp.Ordering.TheVariants.{Equal}
 use Rattle.std.specs.FinMap as map
 use Rattle.key_cells.specs.declared.state.CellState as cell

@@ -21,7 +21,7 @@ pub use Rattle.key_slots.specs.Standing.{Agrees, IsGone, IsOut, IsThereOrNew, Is
 pub use Rattle.key_slots.specs.Wiping.{EndsOnly, IsEmptyOrIdle, IsFillingOf, IsIdleOf, IsTakenOf, KeepsSlot, TakesOne}
 pub use Rattle.key_slots.specs.declared.slots.KeySlots.{KeySlots}
 pub use Rattle.persistent_keys.proofs.Leading.{stands_fits, stays}
-pub use Rattle.persistent_keys.specs.Files.{AreFound, Doubt, FitsEitherKeys, FitsKeys, IsPut, Keys, Leads, StandsForKeys, Stored, TellsCell, doubt_undestroyed, doubt_unmade, stored}
+pub use Rattle.persistent_keys.specs.Files.{AreFound, Doubt, doubt_undestroyed, doubt_unmade, FitsEitherKeys, FitsKeys, IsDoubtedIn, IsPut, Keys, Leads, StandsForKeys, Stored, stored, TellsCell}
 pub use Rattle.persistent_keys.specs.declared.file.KeyFile.{KeyFile}
 pub use Rattle.policy_rules.specs.Narrow.{after_rules, after_verdict, narrowed}
 pub use Rattle.policy_rules.specs.declared.narrowing.Label.{Label}
@@ -38,20 +38,20 @@ pub use Rattle.secure_element_calls.specs.declared.calls.NotComputed.TheVariants
 pub use Rattle.slot_table.proofs.AtSlots.{bytes-buffer_of, full_within, key_is_full}
 pub use Rattle.slot_table.specs.Changes.{full_slot}
 pub use Rattle.slot_table.specs.Slots.{IsLawful, IsLawfulSlot, NoKey, Slot, Table, empty_slot, filling_slot, holds_key, is_full, slot_at}
-pub use Rattle.std.proofs.lemmas.Bool.{cases_eq, cases_lt, false≢true}
+pub use Rattle.std.proofs.lemmas.Bool.{and_from, and_parts, and_right, cases_eq, cases_lt, cond-false, eqb-true, false_from_ne_true, false≢true, le-leb, le-ltb, lt-leb, lt-ltb, not-false, or_cases, or_right, true_from_ne_false}
 pub use Rattle.std.proofs.lemmas.Bool.Decides.{nat_tests}
 pub use Rattle.std.proofs.lemmas.Cmp.{nat_cmp_total, ranked}
-pub use Rattle.std.proofs.lemmas.List.{get_or-map, get_or-replicate, get_or_past, length-map, length-replicate, map-set}
+pub use Rattle.std.proofs.lemmas.List.{get_or-map, get_or-replicate, get_or-set_other, get_or-set_same, get_or_past, length-drop, length-map, length-replicate, length-take, map-set}
 pub use Rattle.std.proofs.lemmas.List.Sums.{count_by-le-length, count_by_more_no, count_by_more_yes, sum_by-cons}
 pub use Rattle.std.specs.Cmp.{unsigned_tied}
-pub use Rattle.std.specs.Option.{option_map_or}
+pub use Rattle.std.specs.Option.{option_and_then, option_map, option_map_or}
 pub use Rattle.store_core.specs.Creations.{Enters, IsAmong, IsCreating, IsMaking, IsMaterial, IsAboutToCreate, IsSince, IsUnkept, RecordsStated, mark_unkept}
 pub use Rattle.store_core.specs.Durability.{Course, FitsCourse, KeepsKeys, after, course_of, doubt_after, doubt_by, durable_keys, is_destruction, kept, opened}
 pub use Rattle.store_core.specs.Opaque.{IsElementAnswered}
-pub use Rattle.store_core.specs.Represents.{Holds, HoldsKeys, IsDirectory, IsEntry, IsReading, IsTold, LeavesKeys, Opening, ReadsNone, StandsFor, Told, ranked_on}
+pub use Rattle.store_core.specs.Represents.{HasModel, HasOpaque, Holds, HoldsKeys, IsDirectory, IsEntry, IsReading, IsTold, LeavesKeys, Opening, ranked_on, ReadsNone, StandsFor, Told}
 pub use Rattle.store_core.specs.Start.{AreOpened, IsStart, opening_of}
-pub use Rattle.store_core.specs.Uses.{HasAttributes, IsBrought, IsForgotten, IsLent, KeepsOrEmpties, mark_of, status_of, there_rows}
-pub use Rattle.store_core.specs.Zeros.{FileStaysZeros, HasKeyOrZeros, LeavesZeros, StaysFree, last_store}
+pub use Rattle.store_core.specs.Uses.{HasAttributes, IsBrought, IsForgotten, IsLent, IsRefused, KeepsOrEmpties, mark_of, status_of, there_rows, unread_by}
+pub use Rattle.store_core.specs.Zeros.{FileStaysZeros, HasKeyOrIsClosed, HasKeyOrZeros, last_store, LeavesZeros, StaysFree}
 pub use Rattle.store_core.specs.declared.reading.Unread.{Unread}
 pub use Rattle.store_core.specs.declared.reading.Unread.TheVariants.{Corrupt, Disk, Missing}
 pub use Rattle.store_core.specs.declared.store.Store.{Store}
@@ -60,4 +60,8 @@ pub use Rattle.store_model.proofs.Live.{len_kept-empty, len_kept-insert}
 pub use Rattle.store_model.proofs.Recorded.{IsStated, MayBeKept, recorded, stated_id, then_ok}
 pub use Rattle.store_model.proofs.Sound.{counted_sound, created_sound, destroyed_sound, left, low_id, new_is_free, of_volatile, put, room_of, taken}
 pub use Rattle.store_model.proofs.Tables.{none_holds, refused_by}
-pub use Rattle.store_model.specs.Prelude.{AreFoundKeys, Call, Copy, Destroy, Entry, FaultCounts, FaultMark, GainsNothing, GetAttributes, Hardware, HasFault, HasNumber, IsCaused, IsSoundKey, IsSoundStore, IsVolatileOf, Key, KeyMap, MayBeMarked, OnHandle, OnStore, OpenedKey, Outcome, Plain, Reading, Reply, Request, Service, Settings, Storage, Writing, as_stated, asks_device, buffer_after, copy_attributes, count_persistent, counted, created, created_unless, decided, derivation_key_rows, destroy_rows, destroyed, export_rows, failed_step, file_rows, first_volatile, fits_type, found_from, found_made, has_secure_element, id_read, identified, is_opaque, is_opaque_key, is_persistent_key, is_volatile, is_volatile_of, key_answered, key_changed, last_counts, live_volatile, made_after, made_of, made_with, marked_reply, may_change_keys, new_id, new_key, next_random, outcome_of, own_of, plain_step, reads_persistent, recorded_copy, recorded_of, refusal, replay, reply_unless, room_for_key_rows, serve, service_start, source_rows, start_of, step_copy, use_rows}
+pub use Rattle.store_model.specs.Prelude.{AreFoundKeys, Call, Copy, Destroy, Entry, FaultCounts, FaultMark, GainsNothing, GetAttributes, Hardware, HasFault, HasNumber, IsCaused, IsSoundKey, IsSoundStore, IsVolatileOf, Key, KeyMap, MayBeMarked, OnHandle, OnStore, OpenedKey, Outcome, Plain, Reading, Reply, Request, Service, Settings, Storage, Writing, as_stated, asks_device, buffer_after, copy_attributes, count_persistent, counted, created, created_unless, decided, derivation_key_rows, destroy_rows, destroyed, export_rows, failed_step, first_volatile, fits_type, found_from, found_made, has_secure_element, id_read, identified, is_opaque, is_opaque_key, is_persistent_key, is_volatile, is_volatile_of, key_answered, key_changed, last_counts, live_volatile, made_after, made_of, made_with, marked_reply, may_change_keys, new_id, new_key, next_random, outcome_of, own_of, plain_step, reads_persistent, recorded_copy, recorded_of, refusal, replay, reply_unless, room_for_key_rows, serve, service_start, source_rows, start_of, step_copy, use_rows}
+pub use Rattle.key_cells.specs.declared.state.CellState.{CellState}
+pub use Rattle.std.proofs.lemmas.Option.{none-some, same_Some, slice_get_within}
+pub use Rattle.std.specs.Prelude.{⊤}
+pub use Rattle.store_core.specs.Freed.{ChangesFreed, FreedCell, FreedCellsAreZeros, HasFreed, HaveFreed, IsFreeSince, IsZerosSince, without_cell}

@@ -1,7 +1,6 @@
 -- What a copy records of its source.
 use Rattle.std.proofs.Common.{Bool, Err, IfOk, List, Ok, Result, Some, [], ap, arith, cond, false, length, not, ok_or, refl, subst, sym, true, ℕ, ◌&&◌, ◌*◌, ◌/◌, ◌==◌, ◌∙◌, ◌∷◌, ◌≡◌}
-use Rattle.store_core.proofs.Common.{Attributes, InvalidArgument, IsSoundKey, Key, Label, Status, after_rules, after_verdict, as_stated, attribute_rows, checked, copy_attributes, file_rows, filled, first_row, has_secure_element, identified, is_opaque, is_volatile, location, narrowed, none_holds, recorded_copy, recorded_of, room_for_key_rows, source_rows, then_ok, unless, unless-ok}
-use Rattle.std.proofs.lemmas.Bool.{eqb-true, not-false}
+use Rattle.store_core.proofs.Common.{after_rules, after_verdict, as_stated, attribute_rows, Attributes, checked, copy_attributes, eqb-true, filled, first_row, has_secure_element, identified, InvalidArgument, is_opaque, is_volatile, IsSoundKey, Key, Label, location, narrowed, none_holds, not-false, recorded_copy, recorded_of, room_for_key_rows, source_rows, Status, then_ok, unless, unless-ok}
 use Rattle.policy_rules.specs.declared.narrowing.Label.TheVariants.{NoExport, NoCopy, NoEcb, Aes256}
 use Rattle.policy_rules.specs.declared.narrowing.Verdict.{Verdict}
 use Rattle.policy_rules.specs.declared.narrowing.Verdict.TheVariants.{Keep, Refuse}
@@ -57,17 +56,14 @@ recorded_alike : (m : model.Store) (caller : ℕ) (a : Attributes) (n : ℕ) (re
 recorded_alike m caller a n recorded e =
     let driver = has_secure_element m in
     let labels = m.settings.labels in
-    let one = then_ok (unless (first_row (file_rows m a)) a) _ recorded e in
-    let stated : a ≡ one.0 = (unless-ok (first_row (file_rows m a)) a one.0 one.1.0).1 in
-    let two = then_ok (checked one.0 n driver) _ recorded one.1.1 in
-    let passed : filled one.0 n ≡ two.0 = (unless-ok (first_row (attribute_rows one.0 n driver)) (filled one.0 n) two.0 two.1.0).1 in
-    let three = then_ok (after_rules labels two.0) _ recorded two.1.1 in
-    let last : three.0 ≡ recorded = (unless-ok (first_row (room_for_key_rows m caller three.0)) three.0 recorded three.1.1).1 in
-    let from : filled a n ≡ two.0 = ap (λ x. filled x n) stated ∙ passed in
-    let alike : IsAlike two.0 three.0 = subst (λ r. IfOk r (IsAlike two.0)) three.1.0 (rules_alike labels two.0) in
+    let one = then_ok (checked a n driver) _ recorded e in
+    let passed : filled a n ≡ one.0 = (unless-ok (first_row (attribute_rows a n driver)) (filled a n) one.0 one.1.0).1 in
+    let two = then_ok (after_rules labels one.0) _ recorded one.1.1 in
+    let last : two.0 ≡ recorded = (unless-ok (first_row (room_for_key_rows m caller two.0)) two.0 recorded two.1.1).1 in
+    let alike : IsAlike one.0 two.0 = subst (λ r. IfOk r (IsAlike one.0)) two.1.0 (rules_alike labels one.0) in
     subst (IsAlike a) last (record {
-      key_type = alike.key_type ∙ ap (λ (x : Attributes). x.key_type) (sym from);
-      lifetime = alike.lifetime ∙ ap (λ (x : Attributes). x.lifetime) (sym from);
+      key_type = alike.key_type ∙ ap (λ (x : Attributes). x.key_type) (sym passed);
+      lifetime = alike.lifetime ∙ ap (λ (x : Attributes). x.lifetime) (sym passed);
     })
 
 -- A COPY

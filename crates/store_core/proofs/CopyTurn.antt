@@ -1,6 +1,6 @@
 -- A turn that copies a key.
 use Rattle.std.proofs.Common.{inl, Bool, Err, IsErrOf, List, None, Ok, Option, Result, Some, [], ap, cond, false, if◌then◌else◌, is_some, length, refl, subst, sym, true, ℕ, ◌++◌, ◌+◌, ◌∙◌, ◌∷◌, ◌≡◌}
-use Rattle.store_core.proofs.Common.{Agrees, AreHoldings, Attributes, Buffer, Copy, Corrupt, Disk, Entry, FaultCounts, Holds, HoldsHandle, InvalidHandle, IsEntry, IsMaking, IsMaterial, IsAboutToCreate, IsTold, Key, KeySlots, Missing, OnStore, Opening, Outcome, Pairs, Reading, Request, Rose, Service, Slot, SlotHasKey, StandsFor, Status, Storage, Store, Unread, buffer_of, bytes-buffer_of, bytes_of, created_unless, id_read, is_destruction, is_opaque, is_persistent_key, mark_of, plain_step, reads_persistent, recorded_copy, recorded_of, replay, status_of, step_copy, there_rows}
+use Rattle.store_core.proofs.Common.{Agrees, AreHoldings, Attributes, Buffer, buffer_of, bytes-buffer_of, bytes_of, Copy, Corrupt, created_unless, Disk, Entry, FaultCounts, HasModel, Holds, HoldsHandle, id_read, InvalidHandle, is_destruction, is_opaque, is_persistent_key, IsAboutToCreate, IsEntry, IsMaking, IsMaterial, IsRefused, IsTold, Key, KeySlots, mark_of, Missing, OnStore, Opening, Outcome, Pairs, plain_step, Reading, reads_persistent, recorded_copy, recorded_of, replay, Request, Rose, Service, Slot, SlotHasKey, StandsFor, Status, status_of, step_copy, Storage, Store, there_rows, Unread}
 use Rattle.disk_face.specs.declared.Disk as Disk
 use Rattle.driver_dispatch.specs.declared.devices.Devices as Devices
 use Rattle.admission.specs.declared.rules.Admission as Admission
@@ -8,8 +8,7 @@ use Rattle.std.specs.FinMap as map
 use Rattle.store_model.specs.Store as model
 use Rattle.store_model.specs.KeyUse as key_use
 use Rattle.store_model.specs.Faults as fault
-use Rattle.store_core.specs.Uses.{IsRefused}
-use Rattle.store_core.proofs.Holding.{with_buffer}
+use Rattle.store_core.proofs.Holding.{has_model, with_buffer}
 use Rattle.store_core.proofs.Loading.{reads_it}
 use Rattle.store_core.proofs.Makes.{IsRefusedAt}
 use Rattle.store_core.proofs.Copied.{copies}
@@ -120,7 +119,7 @@ module _ {D A C : Type 0} (disks : Disk.Ghosts D) (elements : Devices.Ghosts A) 
   ended = record mid { slots = slots; ranked = mid.ranked + 1 }
 
   abbrev Ends : (model.Store → Type 0) → Type 0
-  Ends P = StandsFor disks elements admits ended start opening (h ++ e ∷ []) less × (m : model.Store) × (IsTold (disks.contents mid.file.cells.disk) start (h ++ e ∷ []) → m ≡ (replay start h).store) × P m
+  Ends P = StandsFor disks elements admits ended start opening (h ++ e ∷ []) less × HasModel (IsTold (disks.contents mid.file.cells.disk) start (h ++ e ∷ [])) start h P
 
   pub uncopied : (why : Unread) → (IsWhy why Missing → Brought (λ m. map.get m.keys source ≡ None)) → ((IsWhy why Missing → ⊥) → Brought (λ m. is_persistent_key (map.get m.keys source) ≡ true)) →
       (IsWhy why Disk → Rose (disks.faults old.file.cells.disk) (disks.faults mid.file.cells.disk)) → (IsWhy why Corrupt → is_some (disks.contents mid.file.cells.disk) ≡ false) →
@@ -129,24 +128,18 @@ module _ {D A C : Type 0} (disks : Disk.Ghosts D) (elements : Devices.Ghosts A) 
       let n = missing refl in (
         refuses disks elements admits only_now mid slots start opening h all less e (keeps e caller source stated by call) InvalidHandle n.0
             (refused_here e caller source stated by call disks elements admits mid start opening h all n.0 InvalidHandle (ap (λ (o : Option Key). recorded_copy n.0.model caller o stated) n.1)) (agrees n.0.model n.0.slots) law is,
-        n.0.model,
-        n.0.replayed,
-        ap there_rows n.1,
+        has_model disks elements admits n.0 (λ k. k) (ap there_rows n.1),
       )
   uncopied Disk missing not_read rose blind is =
       let n = not_read (λ e. cc) in (
         unread disks elements admits only_now mid slots start opening h all less e (keeps e caller source stated by call) (Storage Reading) tt n.0
             (reads_kept e caller source stated by call disks elements admits mid start opening h all n.0 n.1) (agrees n.0.model n.0.slots) law
             (subst (Rose _) (sym is.disk_faults) (subst (λ (f : ℕ). Rose f (disks.faults mid.file.cells.disk)) (sym (ap (λ (c : FaultCounts). c.faults) s.counts)) (rose refl))) is,
-        n.0.model,
-        n.0.replayed,
-        n.1,
+        has_model disks elements admits n.0 (λ k. k) n.1,
       )
   uncopied Corrupt missing not_read rose blind is =
       let n = not_read (λ e. cc) in (
         unread disks elements admits only_now mid slots start opening h all less e (keeps e caller source stated by call) fault.Corrupt tt n.0
             (reads_kept e caller source stated by call disks elements admits mid start opening h all n.0 n.1) (agrees n.0.model n.0.slots) law (blind refl) is,
-        n.0.model,
-        n.0.replayed,
-        n.1,
+        has_model disks elements admits n.0 (λ k. k) n.1,
       )

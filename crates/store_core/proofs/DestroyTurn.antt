@@ -1,10 +1,9 @@
 -- A ranked turn that destroys a key.
-use Rattle.std.proofs.Common.{List, None, Some, [], ap, arith, false, is_some, length, not, refl, set, slice_index, slice_set, subst, sym, true, ℕ, ◌++◌, ◌+◌, ◌-◌, ◌/◌, ◌<◌, ◌^◌, ◌∙◌, ◌∷◌, ◌≡◌, ◌⊎◌}
-use Rattle.store_core.proofs.Common.{Agrees, Destroy, Doubt, Entry, FaultMark, Free, HasFault, HasNoKey, IsDirectory, IsEntry, IsPut, IsSoundStore, IsSure, Key, KeyFile, KeySlots, Keys, Leads, MayBeMarked, OnStore, Opening, Pairs, Plain, Puts, Service, Slot, SlotHasKey, StandsFor, StandsForKeys, Store, Stored, cell_state, creation_of_state, destroyed_sound, doubt_by, durable_keys, has_id, holds_key, is_persistent_key, is_volatile, kept, key_changed, key_of_slot, ranked_on, settled_states, slot_at, stays, stored, without_key}
+use Rattle.std.proofs.Common.{List, None, Some, [], ap, arith, false, inl, is_some, length, not, refl, set, slice_index, slice_set, subst, sym, true, ℕ, ◌++◌, ◌+◌, ◌-◌, ◌/◌, ◌<◌, ◌^◌, ◌∙◌, ◌∷◌, ◌≡◌, ◌⊎◌}
+use Rattle.store_core.proofs.Common.{Agrees, cell_state, creation_of_state, Destroy, destroyed_sound, Doubt, doubt_by, durable_keys, Entry, FaultMark, Free, has_id, HasFault, HasNoKey, holds_key, is_destruction, is_persistent_key, is_volatile, IsDirectory, IsEntry, IsPut, IsSoundStore, IsSure, kept, Key, key_changed, key_of_slot, KeyFile, Keys, KeySlots, Leads, MayBeMarked, OnStore, Opening, option_map, Pairs, Plain, Puts, ranked_on, Service, settled_states, Slot, slot_at, SlotHasKey, StandsFor, StandsForKeys, stays, Store, Stored, stored, without_key}
 use Rattle.disk_face.specs.declared.Disk as Disk
 use Rattle.driver_dispatch.specs.declared.devices.Devices as Devices
 use Rattle.admission.specs.declared.rules.Admission as Admission
-use Rattle.std.specs.Option.{option_map}
 use Rattle.std.specs.FinMap as map
 use Rattle.key_cells.specs.declared.state.CellState as cell
 use Rattle.store_model.specs.Store as model
@@ -12,6 +11,7 @@ use Rattle.store_core.proofs.Holding.{counts_of, same_device}
 use Rattle.store_core.proofs.Histories.{told_before}
 use Rattle.store_core.proofs.Kept.{key_of_cell}
 use Rattle.store_core.proofs.Changing.{leaves, turns_standing}
+use Rattle.store_core.proofs.Freeing.{MovesFree, unmoved}
 use Rattle.store_core.proofs.Removing.{gone, takes_out, without_kept, kept_here, kept_same, directory_emptied, directory_stays, device_stays, device_loses}
 use Rattle.store_core.proofs.Destroyed.{entry_removes, entry_stays, changes_it, doubt_here, opens_with, in_no_cell, fewer_kept, as_many_live, as_many_kept, live_after}
 
@@ -52,7 +52,7 @@ module _ {D A C : Type 0} (disks : Disk.Ghosts D) (elements : Devices.Ghosts A) 
       let before = told_before (disks.contents disk) start h e in
       (leaves disks elements admits only_now e (λ service. map.get service.store.keys id ≡ None) Plain old.slots old.devices s.holds before (λ k. ap (λ (x : model.Store). map.get x.keys id) (sym (s.holds.replayed (before k))) ∙ none)
       (λ service known. entry_stays e id call service is.marked known) s.holds.slots s.holds.holdings refl (same_device (elements.keys old.devices) s.holds.model s.holds.device) tt (λ service known at. tt)
-      (λ c known. doubt_here e id call c Plain None is.marked (ap kept known)) is).0
+      (λ c known. doubt_here e id call c Plain None is.marked (ap kept known)) (λ service known. inl (ap is_persistent_key (changes_it e id call service ∙ known))) is).0
 
   -- what the slots make of a key that is taken out
   abbrev pub Forgets : KeySlots → Type 0
@@ -67,6 +67,7 @@ module _ {D A C : Type 0} (disks : Disk.Ghosts D) (elements : Devices.Ghosts A) 
     pub tells : is_some (disks.contents file.cells.disk) ≡ is_some (disks.contents disk)
     pub leads : (keys keys' : Keys) (doubt : Doubt) (key : Stored) → StandsForKeys disks disk cells keys doubt → keys id ≡ Some key → IsPut keys keys' id None →
         Leads disks disk file.cells.disk cells file.cells.states.items keys doubt keys' (doubt_by mark true key doubt)
+    pub frees : MovesFree true true mark cells file.cells.states.items
     pub settles : (key : Stored) (doubt : Doubt) → doubt_by mark true key doubt ≡ [] → IsSure file.cells.states.items
 
   -- a store without a key of its file
@@ -103,6 +104,8 @@ module _ {D A C : Type 0} (disks : Disk.Ghosts D) (elements : Devices.Ghosts A) 
         leads = λ course known same stands. subst (Leads disks disk file.cells.disk cells file.cells.states.items (durable_keys m) course.doubt (durable_keys (gone m id)))
             (sym (doubt_here e id call course mark _ is.marked (ap (λ (x : model.Store). durable_keys x id) (sym same) ∙ kept_here m id key there false persistent)))
             (f.leads (durable_keys m) (durable_keys (gone m id)) course.doubt (stored key.number key.attributes key.bytes) stands (kept_here m id key there false persistent) (without_kept m id));
+        frees = λ service known same. subst (λ b. MovesFree (is_persistent_key (key_changed service e.caller e.call)) b mark cells file.cells.states.items) (sym (ap is_destruction call))
+            (subst (λ b. MovesFree b true mark cells file.cells.states.items) (sym (ap is_persistent_key (changes_it e id call service ∙ (ap (λ (x : model.Store). map.get x.keys id) (sym same) ∙ there)) ∙ ap not persistent)) f.frees);
         settles = λ course known same sure none. f.settles (stored key.number key.attributes key.bytes) course.doubt
             (sym (doubt_here e id call course mark _ is.marked (ap (λ (x : model.Store). durable_keys x id) (sym same) ∙ kept_here m id key there false persistent)) ∙ none);
         fault = fault;
@@ -142,6 +145,8 @@ module _ {D A C : Type 0} (disks : Disk.Ghosts D) (elements : Devices.Ghosts A) 
         leads = λ course known same stands. subst (Leads disks disk disk cells cells (durable_keys m) course.doubt (durable_keys (gone m id)))
             (sym (doubt_here e id call course mark None is.marked (ap (λ (x : model.Store). durable_keys x id) (sym same) ∙ kept_here m id key there true volatile)))
             (stays disks disk cells (durable_keys m) (durable_keys (gone m id)) course.doubt (kept_same m id key there volatile) stands);
+        frees = λ service known same. unmoved (is_persistent_key (key_changed service e.caller e.call)) (is_destruction e.call) mark cells
+            (inl (ap is_persistent_key (changes_it e id call service ∙ (ap (λ (x : model.Store). map.get x.keys id) (sym same) ∙ there)) ∙ ap not volatile));
         settles = λ course known same sure none. sure (sym (doubt_here e id call course mark None is.marked (ap (λ (x : model.Store). durable_keys x id) (sym same) ∙ kept_here m id key there true volatile)) ∙ none);
         fault = fault;
         may = λ service known same. may service (changes_it e id call service ∙ ap (λ (x : model.Store). map.get x.keys id) (sym same));

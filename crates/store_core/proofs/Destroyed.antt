@@ -1,9 +1,6 @@
 -- The one-thread store and the devices without a key that is destroyed.
 use Rattle.std.proofs.Common.{⊎_elim, ne_eqb, Bool, List, None, Ok, Option, Some, [], ap, arith, cond, eq-eqb, false, inl, inr, length, nat_lt, not, refl, slice_index, slice_set, sym, true, ℕ, ◌&&◌, ◌+◌, ◌-◌, ◌/◌, ◌<◌, ◌==◌, ◌^◌, ◌||◌, ◌∙◌, ◌≡◌, ◌≢◌, ◌≤◌}
-use Rattle.store_core.proofs.Common.{Attributes, Course, Destroy, Doubt, Entry, FaultMark, HasNoKey, HeldKey, HeldKeys, HoldsHandle, InvalidHandle, IsDirectory, IsSomeKey, IsSoundStore, IsVolatileOf, Key, KeyMap, OnStore, Open, Plain, Request, Service, Status, Storage, Stored, Writing, as_stated, attribute_rows, cases_eq, cases_lt, checked, count_persistent, counted, creation_of_state, decided, destroy_rows, destroyed, doubt_after, doubt_by, doubt_undestroyed, false≢true, filled, first_row, get_or_past, has_id, has_secure_element, held_key, identified, is_destruction, is_lifetime, is_opaque, is_volatile, is_volatile_of, kept, key_changed, live_volatile, location, low_id, none_holds, of_volatile, option_map_or, outcome_of, persistence, serve, unless-ok}
-use Rattle.std.proofs.lemmas.Bool.{and_parts, or_cases, eqb-true, le-ltb, lt-ltb, not-false, true_from_ne_false}
-use Rattle.std.proofs.lemmas.List.{get_or-set_same, get_or-set_other}
-use Rattle.std.specs.Prelude.{⊤}
+use Rattle.store_core.proofs.Common.{and_parts, as_stated, attribute_rows, Attributes, cases_eq, cases_lt, checked, count_persistent, counted, Course, creation_of_state, decided, Destroy, destroy_rows, destroyed, Doubt, doubt_after, doubt_by, doubt_undestroyed, Entry, eqb-true, false≢true, FaultMark, filled, first_row, get_or-set_other, get_or-set_same, get_or_past, has_id, has_secure_element, HasNoKey, held_key, HeldKey, HeldKeys, HoldsHandle, identified, InvalidHandle, is_destruction, is_lifetime, is_opaque, is_volatile, is_volatile_of, IsDirectory, IsSomeKey, IsSoundStore, IsVolatileOf, kept, Key, key_changed, KeyMap, le-ltb, live_volatile, location, low_id, lt-ltb, none_holds, not-false, of_volatile, OnStore, Open, option_map_or, or_cases, outcome_of, persistence, Plain, Request, serve, Service, Status, Storage, Stored, true_from_ne_false, unless-ok, Writing, ⊤}
 use Rattle.std.specs.FinMap as map
 use Rattle.key_cells.specs.declared.state.CellState as cell
 use Rattle.store_model.specs.Store as model

@@ -1,7 +1,6 @@
 -- Which slots the calls within a turn end.
 use Rattle.std.proofs.Common.{List, None, ap, arith, inl, inr, subst, sym, true, ℕ, ⊎_elim, ◌∙◌, ◌≡◌, ◌⊎◌}
-use Rattle.store_core.proofs.Common.{Agrees, EndsOnly, IsEmptyOrIdle, IsFillingOf, IsLawful, IsLawfulSlot, IsTakenOf, KeepsSlot, KeepsOrEmpties, Pairs, Slot, Table, TakesOne, empty_slot, ends_then, full_within, holds_key, keeps_all, key_is_full, key_of_slot, slot_at}
-use Rattle.std.proofs.lemmas.Option.{none-some}
+use Rattle.store_core.proofs.Common.{Agrees, empty_slot, ends_then, EndsOnly, full_within, holds_key, IsEmptyOrIdle, IsFillingOf, IsLawful, IsLawfulSlot, IsTakenOf, keeps_all, KeepsOrEmpties, KeepsSlot, key_is_full, key_of_slot, none-some, Pairs, Slot, slot_at, Table, TakesOne}
 use Rattle.std.specs.FinMap as map
 use Rattle.store_model.specs.Store as model
 

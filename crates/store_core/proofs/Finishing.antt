@@ -102,7 +102,7 @@ module _ {D A C : Type 0} (disks : Disk.Ghosts D) (elements : Devices.Ghosts A) 
     pub refuses : (status : Status) (s : HoldsWith mid start opening h all e) → (IsTold (disks.contents disk) start (h ++ e ∷ []) → IsRefusedAt e status (replay start h)) → Agrees slots.table.slots s.model less → AreHoldings less →
         IsEntry disks elements admits given_up Plain e → StandsFor disks elements admits given_up start opening (h ++ e ∷ []) less
     refuses status s refused agrees law is = (leaves disks elements admits only_now e (IsRefusedAt e status) Plain slots mid.devices s (λ k. k) refused (λ service known. plain_counts e keeps service is.marked ∙ known.leaves) agrees law refl
-        (same_device (elements.keys mid.devices) s.model s.device) tt (λ service known at. tt) (λ c known. doubted e keeps c Plain None None is.marked (changes_none e keeps status c.service known) refl) is).0
+        (same_device (elements.keys mid.devices) s.model s.device) tt (λ service known at. tt) (λ c known. doubted e keeps c Plain None None is.marked (changes_none e keeps status c.service known) refl) (λ service known. inr keeps) is).0
 
     abbrev Reads : Service → Type 0
     Reads service = reads_persistent service e.caller e.call ≡ true
@@ -134,4 +134,5 @@ module _ {D A C : Type 0} (disks : Disk.Ghosts D) (elements : Devices.Ghosts A) 
     unread mark kind s reads agrees law fault is = (leaves disks elements admits only_now e Reads mark slots mid.devices s (λ k. k) reads
         (λ service known. ap (λ (x : FaultMark). (serve service e.caller e.call x).service.store) is.marked ∙ marked_counts service e.caller e.call mark (failing mark kind) keeps) agrees law refl
         (same_device (elements.keys mid.devices) s.model s.device) fault (λ service known at. may_read mark kind service known)
-        (λ c known. doubted e keeps c mark (key_changed c.service e.caller e.call) (kept (key_changed c.service e.caller e.call)) is.marked refl refl ∙ same_doubt mark kind (kept (key_changed c.service e.caller e.call)) c.doubt) is).0
+        (λ c known. doubted e keeps c mark (key_changed c.service e.caller e.call) (kept (key_changed c.service e.caller e.call)) is.marked refl refl ∙ same_doubt mark kind (kept (key_changed c.service e.caller e.call)) c.doubt)
+        (λ service known. inr keeps) is).0

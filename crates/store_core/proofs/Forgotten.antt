@@ -1,9 +1,6 @@
 -- What a device has of the keys that are destroyed.
 use Rattle.std.proofs.Common.{List, Option, ap, cond, false, subst, sym, true, ℕ, ◌<◌, ◌∙◌, ◌≡◌}
-use Rattle.store_core.proofs.Common.{Agrees, HeldKeys, IsDirectory, IsForgotten, IsLawful, IsSoundStore, Key, Pairs, Slot, Table, cell_state, false≢true, has_id, holds_key, is_opaque, is_volatile, key_of_slot, slot_at, without_key}
-use Rattle.std.proofs.lemmas.Bool.{false_from_ne_true}
-use Rattle.std.proofs.lemmas.Option.{same_Some}
-use Rattle.std.specs.Option.{option_map}
+use Rattle.store_core.proofs.Common.{Agrees, cell_state, false_from_ne_true, false≢true, has_id, HeldKeys, holds_key, is_opaque, is_volatile, IsDirectory, IsForgotten, IsLawful, IsSoundStore, Key, key_of_slot, option_map, Pairs, same_Some, Slot, slot_at, Table, without_key}
 use Rattle.key_cells.specs.declared.state.CellState as cell
 use Rattle.store_model.specs.Store as model
 use Rattle.store_core.proofs.ByElement.{opaque_is_volatile}

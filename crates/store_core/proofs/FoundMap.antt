@@ -1,7 +1,6 @@
 -- The map of keys that were found, by their places in the list.
 use Rattle.std.proofs.Common.{Bool, List, None, Option, Some, [], ap, arith, cond, eq-eqb, false, find, length, ne_eqb, refl, slice_get, suc, sym, true, zero, ℕ, ◌+◌, ◌==◌, ◌∙◌, ◌∷◌, ◌≡◌}
-use Rattle.store_core.proofs.Common.{AreFoundKeys, IsKeyOf, Key, OpenedKey, false≢true, found_from, has_secure_element, len_kept-empty, len_kept-insert, put}
-use Rattle.std.proofs.lemmas.Bool.{eqb-true}
+use Rattle.store_core.proofs.Common.{AreFoundKeys, eqb-true, false≢true, found_from, has_secure_element, IsKeyOf, Key, len_kept-empty, len_kept-insert, OpenedKey, put}
 use Rattle.std.specs.Ordering.{nat_cmp}
 use Rattle.std.specs.FinMap as map
 use Rattle.store_model.specs.Prelude.{Store}

@@ -73,9 +73,6 @@ course_push start h e = after_all_push after FitsCourse (opened start) h e (open
 pub course_doubt : (start : Service) (h : List Entry) (e : Entry) → key_changed (replay start h) e.caller e.call ≡ None → doubt_after e (course_of start h) ≡ (course_of start h).doubt
 course_doubt start h e none = quiet_doubt e (course_of start h) (ap (λ (s : Service). key_changed s e.caller e.call) (course_service start h) ∙ none)
 
-pub doubt_stays : (start : Service) (h : List Entry) (e : Entry) → key_changed (replay start h) e.caller e.call ≡ None → (course_of start (h ++ e ∷ [])).doubt ≡ (course_of start h).doubt
-doubt_stays start h e none = ap (λ (s : Course). s.doubt) (course_push start h e) ∙ course_doubt start h e none
-
 -- REFUSALS
 
 abbrev IsRefusal : Reply → Type 0

@@ -1,10 +1,11 @@
 -- A store that holds keys, after a turn that leaves all.
 use Rattle.std.proofs.Common.{List, Option, ap, arith, inl, inr, is_some, length, refl, subst, sym, true, ℕ, ⊎_elim, ◌+◌, ◌∙◌, ◌≡◌, ◌≤◌, ◌⊎◌}
-use Rattle.store_core.proofs.Common.{Agrees, AreHoldings, Buffer, Doubt, Entry, FaultCounts, FitsCourse, FitsEitherKeys, FitsFrom, FitsKeys, HeldKeys, Holds, HoldsKeys, IsCaused, IsDirectory, IsSure, IsTold, KeepsPromise, KeyFile, KeySlots, Keys, Leads, Opening, Pairs, Service, StandsFor, StandsForKeys, Store, Within, after, counted, course_of, durable_keys, fits_least, fits_whole, opened, stays}
+use Rattle.store_core.proofs.Common.{after, Agrees, AreHoldings, Buffer, cell_state, counted, course_of, Doubt, durable_keys, Entry, FaultCounts, fits_least, fits_whole, FitsCourse, FitsEitherKeys, FitsFrom, FitsKeys, HasModel, HeldKeys, Holds, HoldsKeys, IsCaused, IsDirectory, IsSure, IsTold, KeepsPromise, KeyFile, Keys, KeySlots, Leads, opened, Opening, Pairs, Service, StandsFor, StandsForKeys, stays, Store, Within}
 use Rattle.disk_face.specs.declared.Disk as Disk
 use Rattle.driver_dispatch.specs.declared.devices.Devices as Devices
 use Rattle.admission.specs.declared.rules.Admission as Admission
 use Rattle.store_model.specs.Store as model
+use Rattle.store_core.proofs.Freeing.{all_still}
 use Rattle.store_core.proofs.Histories.{course_service}
 
 -- calls after which a crash leaves the keys of now keep the promise of the same history
@@ -53,6 +54,10 @@ module _ {D A C : Type 0} (disks : Disk.Ghosts D) (elements : Devices.Ghosts A) 
     keeps = λ keys doubt s. stays disks file.cells.disk file.cells.states.items keys keys doubt (λ id. refl) s;
   }
 
+  -- the model of a store
+  pub has_model : {K K' : Type 0} {store : Store D A C} {start : Service} {opening : Opening} {h : List Entry} {all : List Pairs} {P : model.Store → Type 0} (n : Holds disks elements admits K store start opening h all) → (K' → K) → P n.model → HasModel K' start h P
+  has_model n known is = record { model = n.model; replayed = λ k. n.replayed (known k); sound = n.sound; settings = n.settings; calls = n.calls ∙ n.ranked; holds = is }
+
   -- No key changes, and no entry is added: the file was read, the slots have these holdings, and a device has what it had.
   pub carries : {K : Type 0} {old : Store D A C} {start : Service} {opening : Opening} {h : List Entry} {all more : List Pairs} (K' : Type 0) (file : KeyFile D) (slots : KeySlots) (buffer : Buffer) (devices : A) → IsReadOn old.file file →
       elements.keys devices ≡ elements.keys old.devices → elements.locations devices ≡ elements.locations old.devices → (s : Holds disks elements admits K old start opening h all) → (is_some (disks.contents old.file.cells.disk) ≡ true → K) → (K' → K) →
@@ -62,9 +67,9 @@ module _ {D A C : Type 0} (disks : Disk.Ghosts D) (elements : Devices.Ghosts A) 
       model = s.model;
       replayed = λ k. s.replayed (known k);
       sound = s.sound;
+      settings = s.settings;
       labels_are = s.labels_are;
       locations_are = s.locations_are ∙ sym places;
-      has_file = s.has_file;
       found = s.found;
       few = s.few;
       calls = s.calls;
@@ -81,6 +86,8 @@ module _ {D A C : Type 0} (disks : Disk.Ghosts D) (elements : Devices.Ghosts A) 
       promise = λ is. promise_stays (disks.left_since old.file.cells.disk) (disks.left_since file.cells.disk) (disks.moment old.file.cells.disk) (disks.moment file.cells.disk) opening.moment start h
           (FitsEitherKeys (durable_keys s.model) (course_of start h).doubt (durable_keys s.model) (course_of start h).doubt) (s.promise (before is)) (leads is).within
           (λ image fits. subst (λ (x : model.Store). FitsKeys (durable_keys x) (course_of start h).doubt image) (s.replayed (told (before is)) ∙ ap (λ (x : Service). x.store) (sym (course_service start h))) (⊎_elim (λ f. f) (λ f. f) fits));
+      freed = λ is. let f = s.freed (before is) in
+          (f.0, f.1, all_still disks old.file.cells.disk file.cells.disk old.file.cells.states.items file.cells.states.items (leads is).zeros (λ cell lt free. ap (λ (c : _). cell_state c.items cell) read.slots ∙ free) f.0 f.2);
       caused = subst (λ (t : Option (List ℕ)). IsCaused (is_some t) opening.counts h) (sym read.same) s.caused;
       allowed = λ t. s.allowed (subst (λ (o : Option (List ℕ)). IsTold o start h) read.same t);
     },

@@ -1,7 +1,6 @@
 -- What the directory says of the keys, and keys as a file keeps them.
 use Rattle.std.proofs.Common.{Bool, List, None, Ok, Option, Some, [], ap, arith, bit_and, cond, eq-eqb, false, is_some, length, nat_le, not, refl, subst, sym, true, ℕ, ◌&&◌, ◌*◌, ◌<◌, ◌==◌, ◌∙◌, ◌∷◌, ◌≡◌, ◌≤◌}
-use Rattle.store_core.proofs.Common.{Attributes, HasNoKey, InvalidArgument, InvalidHandle, IsDirectory, IsKeyOf, IsVolatileKey, Key, NotSupported, Open, as_stated, attribute_rows, cell_state, checked, creation_of_state, false≢true, filled, first_row, first_row-back, has_id, identified, implied_usage, is_lifetime, is_opaque, is_persistent_key, is_stated_id, is_volatile, nat_tests, persistence, size_rows, there_rows, unless, unless-ok}
-use Rattle.std.proofs.lemmas.Bool.{and_parts, and_right, cond-false, eqb-true}
+use Rattle.store_core.proofs.Common.{and_parts, and_right, as_stated, attribute_rows, Attributes, cell_state, checked, cond-false, creation_of_state, eqb-true, false≢true, filled, first_row, first_row-back, has_id, HasNoKey, identified, implied_usage, InvalidArgument, InvalidHandle, is_lifetime, is_opaque, is_persistent_key, is_stated_id, is_volatile, IsDirectory, IsKeyOf, IsVolatileKey, Key, nat_tests, NotSupported, Open, persistence, size_rows, there_rows, unless, unless-ok}
 use Rattle.std.specs.FinMap as map
 use Rattle.key_cells.specs.declared.state.CellState as cell
 use Rattle.store_model.specs.Store as model

@@ -1,7 +1,6 @@
 -- The bytes of a key that is lent.
 use Rattle.std.proofs.Common.{Bool, IsTrue, None, Some, [], ap, cond, false, length, refl, subst, true, ℕ, ◌≡◌}
-use Rattle.store_core.proofs.Common.{Attributes, IsSoundKey, Key, KeyUse, as_stated, attribute_rows, filled, first_row, has_secure_element, identified, is_volatile, local, none_holds, permits_size, slot_bytes, unless-ok, use_refusal}
-use Rattle.std.proofs.lemmas.Bool.{not-false}
+use Rattle.store_core.proofs.Common.{as_stated, attribute_rows, Attributes, filled, first_row, has_secure_element, identified, is_volatile, IsSoundKey, Key, KeyUse, local, none_holds, not-false, permits_size, slot_bytes, unless-ok, use_refusal}
 use Rattle.store_model.specs.Store as model
 
 -- the slot of a local key has its bytes

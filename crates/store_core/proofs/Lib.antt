@@ -2,7 +2,8 @@ mod Common
 pub mod Histories
 pub mod Rises
 pub mod Sure
-mod Holding
+pub mod Freeing
+pub mod Holding
 mod Kept
 mod Replaced
 mod Loading

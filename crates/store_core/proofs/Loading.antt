@@ -1,10 +1,9 @@
 -- A key that was loaded from the file.
 use Rattle.std.proofs.Common.{Bool, List, None, Option, Some, [], ap, arith, cond, false, inl, inr, is_some, nat_lt, refl, subst, sym, true, ℕ, ◌++◌, ◌<◌, ◌∙◌, ◌∷◌, ◌≡◌}
-use Rattle.store_core.proofs.Common.{Agrees, Attributes, Buffer, Entry, Gains, Holds, IsCaused, IsDirectory, IsKeyOf, IsTold, Key, KeyFile, KeySlots, NoKey, Opening, Pairs, Puts, Request, Service, Slot, SlotHasKey, Store, Stored, bytes-buffer_of, cell_state, creation_of_state, durable_keys, false≢true, full_slot, has_id, id_read, is_opaque, is_persistent_key, is_volatile_of, kept, reads_persistent, replay, stored}
+use Rattle.store_core.proofs.Common.{Agrees, Attributes, Buffer, bytes-buffer_of, cell_state, creation_of_state, durable_keys, Entry, false≢true, full_slot, Gains, has_id, Holds, id_read, is_opaque, is_persistent_key, is_volatile_of, IsCaused, IsDirectory, IsKeyOf, IsTold, kept, Key, KeyFile, KeySlots, NoKey, Opening, option_and_then, Pairs, Puts, reads_persistent, replay, Request, Service, Slot, SlotHasKey, Store, Stored, stored}
 use Rattle.disk_face.specs.declared.Disk as Disk
 use Rattle.driver_dispatch.specs.declared.devices.Devices as Devices
 use Rattle.admission.specs.declared.rules.Admission as Admission
-use Rattle.std.specs.Option.{option_and_then}
 use Rattle.std.specs.FinMap as map
 use Rattle.store_model.specs.Store as model
 use Rattle.store_core.proofs.Histories.{reads_last, told_before}
@@ -112,9 +111,9 @@ module _ {D A C : Type 0} (disks : Disk.Ghosts D) (elements : Devices.Ghosts A) 
               model = replaced s.model id new;
               replayed = λ k. absurd (untold told_here start h e id s.model blind reads s.replayed (is_persistent (map.get s.model.keys id) own.0 own.1 own.2) (known read.same k));
               sound = sound_after s.model id own.0 a bytes own.1 own.2 key named s.sound;
+              settings = s.settings;
               labels_are = s.labels_are;
               locations_are = s.locations_are;
-              has_file = s.has_file;
               found = s.found;
               few = s.few;
               calls = s.calls;
@@ -129,6 +128,7 @@ module _ {D A C : Type 0} (disks : Disk.Ghosts D) (elements : Devices.Ghosts A) 
               file = λ tells. absurd (blind_again blind tells);
               sure = λ tells none. absurd (blind_again blind tells);
               promise = λ tells. absurd (blind_again blind tells);
+              freed = λ tells. absurd (blind_again blind tells);
               caused = subst (λ (t : Option (List ℕ)). IsCaused (is_some t) opening.counts h) (sym read.same) s.caused;
               allowed = λ t. s.allowed (subst (λ (o : Option (List ℕ)). IsTold o start h) read.same t);
             },

@@ -1,6 +1,6 @@
 -- A ranked turn that creates a key.
-use Rattle.std.proofs.Common.{Bool, List, None, Option, Some, [], ap, arith, cond, false, is_some, length, min, refl, slice_index, subst, sym, true, ℕ, ◌++◌, ◌+◌, ◌-◌, ◌^◌, ◌∙◌, ◌∷◌, ◌≡◌, ◌≤◌}
-use Rattle.store_core.proofs.Common.{Agrees, AreHoldings, Attributes, Course, Destroy, Doubt, Entry, FaultMark, Holds, HoldsKeys, IsDirectory, IsEntry, IsSure, IsTold, Key, Leads, MayBeKept, OnHandle, OnStore, Opening, Pairs, Plain, Reply, Request, Rose, Service, StandsFor, StandsForKeys, Status, Store, Stored, count_persistent, counted, created, created_sound, doubt_after, doubt_by, durable_keys, failed_step, false≢true, is_destruction, is_volatile, kept, key_answered, key_changed, live_volatile, new_id, new_key, option_map_or, outcome_of, plain_step, refusal, replay, serve, stored}
+use Rattle.std.proofs.Common.{Bool, List, None, Option, Some, [], ap, arith, cond, false, is_some, length, min, not, refl, slice_index, subst, sym, true, ℕ, ◌++◌, ◌+◌, ◌-◌, ◌^◌, ◌∙◌, ◌∷◌, ◌≡◌, ◌≤◌}
+use Rattle.store_core.proofs.Common.{Agrees, AreHoldings, Attributes, Course, Destroy, Doubt, Entry, FaultMark, Holds, HoldsKeys, IsDirectory, IsEntry, IsSure, IsTold, Key, Leads, MayBeKept, OnHandle, OnStore, Opening, Pairs, Plain, Reply, Request, Rose, Service, StandsFor, StandsForKeys, Status, Store, Stored, count_persistent, counted, created, created_sound, doubt_after, doubt_by, durable_keys, failed_step, false≢true, is_destruction, is_persistent_key, is_volatile, kept, key_answered, key_changed, live_volatile, new_id, new_key, option_map_or, outcome_of, plain_step, refusal, replay, serve, stored}
 use Rattle.disk_face.specs.declared.Disk as Disk
 use Rattle.driver_dispatch.specs.declared.devices.Devices as Devices
 use Rattle.admission.specs.declared.rules.Admission as Admission
@@ -8,6 +8,7 @@ use Rattle.std.specs.FinMap as map
 use Rattle.store_model.specs.Store as model
 use Rattle.store_core.proofs.Changing.{IsRankedOn, retold, turns}
 use Rattle.store_core.proofs.Added.{put_here}
+use Rattle.store_core.proofs.Freeing.{MovesFree}
 
 -- THE REQUEST
 
@@ -107,8 +108,8 @@ module _ {D A C : Type 0} (disks : Disk.Ghosts D) (elements : Devices.Ghosts A) 
       Leads disks disk new.file.cells.disk old.file.cells.states.items new.file.cells.states.items (durable_keys s.model) doubt (durable_keys (created s.model caller recorded bytes).store)
       (cond (is_volatile recorded) doubt [])) →
       ((doubt : Doubt) → (doubt ≡ [] → IsSure old.file.cells.states.items) → cond (is_volatile recorded) doubt [] ≡ [] → IsSure new.file.cells.states.items) →
-      IsTurnTo Plain → StandsNew
-  makes caller recorded bytes s first last may keeps making holdings same leads settles is =
+      MovesFree (not (is_volatile recorded)) false Plain old.file.cells.states.items new.file.cells.states.items → IsTurnTo Plain → StandsNew
+  makes caller recorded bytes s first last may keeps making holdings same leads settles frees is =
       (turns disks elements admits only_now (IsMakingAt e caller recorded bytes) (IsTold (disks.contents disk) start (h ++ e ∷ [])) old new start opening h all less e Plain (created s.model caller recorded bytes).store s
       (retold (disks.contents disk) (disks.contents new.file.cells.disk) start (h ++ e ∷ []) same.tells) (λ k. making (retold (disks.contents disk) (disks.contents new.file.cells.disk) start (h ++ e ∷ []) same.tells k)) (record {
         becomes = λ service known at. ap (λ (x : model.Store). (created x caller recorded bytes).store) at ∙ sym (plain_counts e keeps service is.marked ∙ known.leaves);
@@ -126,6 +127,8 @@ module _ {D A C : Type 0} (disks : Disk.Ghosts D) (elements : Devices.Ghosts A) 
         tells = same.tells;
         leads = λ c known at stands. subst (Leads disks disk new.file.cells.disk old.file.cells.states.items new.file.cells.states.items (durable_keys s.model) c.doubt (durable_keys (created s.model caller recorded bytes).store))
             (sym (doubt_is c known at)) (leads c.doubt stands);
+        frees = λ service known at. subst (λ b. MovesFree (is_persistent_key (key_changed service e.caller e.call)) b Plain old.file.cells.states.items new.file.cells.states.items) (sym keeps)
+            (subst (λ b. MovesFree b false Plain old.file.cells.states.items new.file.cells.states.items) (sym (ap is_persistent_key (changed service known at))) frees);
         settles = λ c known at sure none. settles c.doubt sure (sym (doubt_is c known at) ∙ none);
         fault = tt;
         may = λ service known at. tt;
@@ -134,9 +137,12 @@ module _ {D A C : Type 0} (disks : Disk.Ghosts D) (elements : Devices.Ghosts A) 
       own : Key
       own = new_key s.model caller (new_id s.model caller recorded) recorded bytes
 
+      changed : (service : Service) → IsMakingAt e caller recorded bytes service → s.model ≡ service.store → key_changed service e.caller e.call ≡ Some own
+      changed service known at =
+          changes_new e keeps caller recorded bytes service known ∙ (ap (λ (x : model.Store). map.get (created x caller recorded bytes).store.keys (new_id x caller recorded)) (sym at) ∙ put_here s.model caller recorded bytes first last s.sound may)
+
       doubt_is : (c : Course) → IsMakingAt e caller recorded bytes c.service → s.model ≡ c.service.store → doubt_after e c ≡ cond (is_volatile recorded) c.doubt []
-      doubt_is c known at = doubted e keeps c Plain (Some own) (kept (Some own)) is.marked
-          (changes_new e keeps caller recorded bytes c.service known ∙ (ap (λ (x : model.Store). map.get (created x caller recorded bytes).store.keys (new_id x caller recorded)) (sym at) ∙ put_here s.model caller recorded bytes first last s.sound may)) refl
+      doubt_is c known at = doubted e keeps c Plain (Some own) (kept (Some own)) is.marked (changed c.service known at) refl
           ∙ by_kind (is_volatile recorded)
         where
           by_kind : (b : Bool) → option_map_or (λ (key : Stored). doubt_by Plain false key c.doubt) (cond b None (Some (stored own.number own.attributes own.bytes))) c.doubt ≡ cond b c.doubt []

@@ -5,6 +5,7 @@ use Rattle.disk_face.specs.declared.Disk as Disk
 use Rattle.driver_dispatch.specs.declared.devices.Devices as Devices
 use Rattle.admission.specs.declared.rules.Admission as Admission
 use Rattle.std.specs.FinMap as map
+use Rattle.key_cells.specs.Contents as contents
 use Rattle.key_cells.specs.declared.state.CellState as cell
 use Rattle.persistent_keys.specs.declared.file.MakeFault.TheVariants.{Disk}
 use Rattle.store_model.specs.Store as model
@@ -14,6 +15,7 @@ use Rattle.store_core.proofs.Removing.{directory_settled}
 use Rattle.store_core.proofs.Added.{none_stated, few_kept, puts, is_new, named_as_stated, stated_here, local_fills, put_here, put_kept, persistent_kept, directory_placed, as_many_live, one_more_kept, made_same, device_same}
 use Rattle.store_core.proofs.Checked.{key_of_checked, kept_local, in_no_cell, in_no_slot, full_counts}
 use Rattle.store_core.proofs.Changing.{unmade}
+use Rattle.store_core.proofs.Freeing.{MovesFree}
 use Rattle.store_core.proofs.Makes.{IsMakingAt, makes, marked_counts, doubted, changes_new, rose_since}
 
 module _ {D A C : Type 0} {disks : Disk.Ghosts D} {elements : Devices.Ghosts A} {admits : Admission.Ghosts C}
@@ -103,6 +105,7 @@ module _ {D A C : Type 0} {disks : Disk.Ghosts D} {elements : Devices.Ghosts A} 
         pub without : IsFirstWithoutKey cells c
         pub placed : file.cells.states.items ≡ set (settled_states cells) c (Open a.id.0 number)
         pub sized : length file.cells.states.items ≡ 512
+        pub free : contents.StaysFreeBut cells file.cells.states.items
         pub tells : is_some (disks.contents file.cells.disk) ≡ is_some (disks.contents disk)
         pub leads : (keys keys' : Keys) (doubt : Doubt) → StandsForKeys disks disk cells keys doubt → IsPut keys keys' a.id.0 (Some (stored number a (bytes_of old.buffer))) → Leading keys doubt keys' []
 
@@ -132,12 +135,14 @@ module _ {D A C : Type 0} {disks : Disk.Ghosts D} {elements : Devices.Ghosts A} 
         device = device_same m caller a r.bytes first last r.holds.sound ready_may (elements.keys old.devices) local r.holds.device;
         tells = f.tells;
       }) (λ doubt stands. subst (λ b. Leading (durable_keys m) doubt (durable_keys after) (cond b doubt [])) (sym persistent) (f.leads (durable_keys m) (durable_keys after) doubt stands put_stated))
-          (λ doubt sure none. set_sure cells file.cells.states.items f.c (Open a.id.0 number) refl f.placed) is
+          (λ doubt sure none. set_sure cells file.cells.states.items f.c (Open a.id.0 number) refl f.placed)
+          (subst (λ b. MovesFree (not b) false Plain cells file.cells.states.items) (sym persistent) f.free) is
 
       -- what the file makes of one that it failed to make
       pub record IsUnfiled (closed_first : Bool) : Type 0 where
         pub settled : settled_states file.cells.states.items ≡ settled_states cells
         pub sized : length file.cells.states.items ≡ 512
+        pub free : contents.StaysFreeBut cells file.cells.states.items
         pub tells : is_some (disks.contents file.cells.disk) ≡ is_some (disks.contents disk)
         pub leads : (keys : Keys) (doubt : Doubt) → StandsForKeys disks disk cells keys doubt → Leading keys doubt keys (doubt_unmade (Disk closed_first) a (bytes_of old.buffer) doubt)
         pub unclosed : closed_first ≡ false → IsSure cells → ⊥
@@ -155,7 +160,9 @@ module _ {D A C : Type 0} {disks : Disk.Ghosts D} {elements : Devices.Ghosts A} 
           (λ service known at. is_persistent_changed service known at)
           file (directory_settled cells file.cells.states.items m f.sized f.settled r.holds.directory) f.tells
           (λ c known at stands. subst (Leading (durable_keys m) c.doubt (durable_keys m)) (sym (doubt_is c known at)) (f.leads (durable_keys m) c.doubt stands))
-          (λ c known at sure none. absurd (in_doubt closed_first c.doubt f.unclosed sure (sym (doubt_is c known at) ∙ none))) is).0
+          (λ c known at sure none. absurd (in_doubt closed_first c.doubt f.unclosed sure (sym (doubt_is c known at) ∙ none)))
+          (λ service known at. subst (λ b. MovesFree (is_persistent_key (key_changed service e.caller e.call)) b (Storage (Writing closed_first)) cells file.cells.states.items) (sym making.keeps)
+          (subst (λ b. MovesFree b false (Storage (Writing closed_first)) cells file.cells.states.items) (sym (is_persistent_changed service known at)) f.free)) is).0
         where
           marked_outcome : (service : Service) → e.mark ≡ Storage (Writing closed_first) → (outcome_of service e).service.store ≡ counted service.store
           marked_outcome service marked = ap (λ (x : FaultMark). (serve service e.caller e.call x).service.store) marked ∙ marked_counts service e.caller e.call (Storage (Writing closed_first)) tt making.keeps

@@ -1,11 +1,9 @@
 -- A ranked turn that creates a volatile key, in memory or in the device.
-use Rattle.std.proofs.Common.{IfSome, List, None, Option, Some, [], ap, arith, cond, false, length, refl, slice_index, slice_set, subst, sym, true, ℕ, ◌++◌, ◌+◌, ◌<◌, ◌^◌, ◌||◌, ◌∙◌, ◌∷◌, ◌≡◌, ◌≤◌, ◌⊎◌}
-use Rattle.store_core.proofs.Common.{Agrees, AreHoldings, Attributes, Buffer, Course, Doubt, Entry, FaultMark, Hardware, HeldKey, HeldKeys, HoldsHandle, HoldsKeys, IsEntry, IsMaking, IsMaterial, IsAboutToCreate, IsSince, IsSomeKey, IsThereOrNew, Key, KeySlots, Lacks, Leads, MayBeKept, NoKey, Opening, Pairs, Plain, Puts, Rose, Service, SlotHasKey, StandsFor, Store, Told, asks_device, bytes_of, created, doubt_after, durable_keys, first_volatile, full_slot, has_element, has_secure_element, identified, is_key_type, is_opaque, is_opaque_key, is_volatile, key_changed, last_counts, new_id, new_key, permits_size, replay, serve, stays, stored, with_copy, with_held_key, with_key_or_same}
+use Rattle.std.proofs.Common.{IfSome, List, None, Option, Some, [], ap, arith, cond, false, inr, length, not, refl, slice_index, slice_set, subst, sym, true, ℕ, ◌++◌, ◌+◌, ◌<◌, ◌^◌, ◌||◌, ◌∙◌, ◌∷◌, ◌≡◌, ◌≤◌, ◌⊎◌}
+use Rattle.store_core.proofs.Common.{Agrees, AreHoldings, asks_device, Attributes, Buffer, bytes_of, Course, created, Doubt, doubt_after, durable_keys, Entry, FaultMark, first_volatile, full_slot, Hardware, has_element, has_secure_element, HeldKey, HeldKeys, HoldsHandle, HoldsKeys, identified, is_destruction, is_key_type, is_opaque, is_opaque_key, is_persistent_key, is_volatile, IsAboutToCreate, IsEntry, IsMaking, IsMaterial, IsSince, IsSomeKey, IsThereOrNew, Key, key_changed, KeySlots, Lacks, last_counts, Leads, MayBeKept, new_id, new_key, NoKey, Opening, option_map, Pairs, permits_size, Plain, Puts, replay, Rose, serve, Service, SlotHasKey, StandsFor, stays, Store, stored, Told, with_copy, with_held_key, with_key_or_same, ⊤}
 use Rattle.disk_face.specs.declared.Disk as Disk
 use Rattle.driver_dispatch.specs.declared.devices.Devices as Devices
 use Rattle.admission.specs.declared.rules.Admission as Admission
-use Rattle.std.specs.Prelude.{⊤}
-use Rattle.std.specs.Option.{option_map}
 use Rattle.std.specs.FinMap as map
 use Rattle.driver_dispatch.specs.Held as held_keys
 use Rattle.store_model.specs.Store as model
@@ -13,6 +11,7 @@ use Rattle.store_core.proofs.Added.{none_here, puts, is_new, put_here, volatile_
 use Rattle.store_core.proofs.Checked.{known_type, known_size, element_is, in_no_slot}
 use Rattle.store_core.proofs.Destroyed.{holds_some}
 use Rattle.store_core.proofs.Changing.{unmade}
+use Rattle.store_core.proofs.Freeing.{MovesFree, unmoved}
 use Rattle.store_core.proofs.Makes.{IsMakingAt, makes, marked_counts, doubted, changes_new, rose_since}
 use Rattle.store_core.proofs.MakesKept.{ready_may, in_buffer}
 
@@ -166,7 +165,8 @@ module _ {D A C : Type 0} {disks : Disk.Ghosts D} {elements : Devices.Ghosts A} 
       tells = refl;
     }) (λ doubt stands. subst (λ b. Leading doubt after (cond b doubt [])) (sym volatile)
         (stays disks disk old.file.cells.states.items (durable_keys m) (durable_keys after) doubt (volatile_kept m caller a r.bytes first last r.holds.sound may volatile) stands))
-        (λ doubt sure none. sure (subst (λ b. cond b doubt [] ≡ []) volatile none)) is
+        (λ doubt sure none. sure (subst (λ b. cond b doubt [] ≡ []) volatile none))
+        (subst (λ b. MovesFree (not b) false Plain old.file.cells.states.items old.file.cells.states.items) (sym volatile) (λ cell lt free. free)) is
 
     -- a key that no device is to hold
     pub local_device : is_opaque a ≡ false → elements.keys devices ≡ elements.keys old.devices → HoldsKeys (elements.keys devices) after
@@ -192,7 +192,8 @@ module _ {D A C : Type 0} {disks : Disk.Ghosts D} {elements : Devices.Ghosts A} 
         (rose_since (last_counts opening.counts h).device_faults (elements.faults old.devices) e.device_faults since.device_faults_since (subst (Rose (elements.faults old.devices)) (sym is.device_faults) rose))
         (λ service known at. ap (λ b. b || asks_device service e.caller e.call) (ap is_opaque_key (changed service known at) ∙ opaque)) old.file r.holds.directory refl
         (λ c known at stands. subst (Leading c.doubt m) (sym (doubt_is c known at)) (stays disks disk old.file.cells.states.items (durable_keys m) (durable_keys m) c.doubt (λ q. refl) stands))
-        (λ c known at sure none. sure (sym (doubt_is c known at) ∙ none)) is).0
+        (λ c known at sure none. sure (sym (doubt_is c known at) ∙ none))
+        (λ service known at. unmoved (is_persistent_key (key_changed service e.caller e.call)) (is_destruction e.call) Hardware old.file.cells.states.items (inr making.keeps)) is).0
       where
         changed : (service : Service) → IsMakingAt e caller a r.bytes service → m ≡ service.store → key_changed service e.caller e.call ≡ Some own
         changed service known at =

@@ -1,7 +1,6 @@
 -- Identifiers that no key has.
 use Rattle.std.proofs.Common.{None, Option, Some, arith, length, refl, ℕ, ◌≡◌, ◌≤◌}
-use Rattle.store_core.proofs.Common.{IsSoundStore, IsVolatileKey, Key, has_secure_element, is_volatile, low_id}
-use Rattle.std.proofs.lemmas.Bool.{false_from_ne_true}
+use Rattle.store_core.proofs.Common.{false_from_ne_true, has_secure_element, is_volatile, IsSoundStore, IsVolatileKey, Key, low_id}
 use Rattle.std.specs.FinMap as map
 use Rattle.store_model.specs.Store as model
 

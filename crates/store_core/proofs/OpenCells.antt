@@ -1,8 +1,7 @@
 -- The open cells of a directory by their numbers, and the keys in them.
 use Rattle.std.proofs.Common.{Bool, IfSome, List, Option, Some, [], ap, arith, cond, count_by, eq-eqb, false, length, refl, slice_get, subst, suc, sym, take, true, zero, ℕ, ⊎_elim, ◌++◌, ◌+◌, ◌<◌, ◌∙◌, ◌∷◌, ◌≡◌, ◌≤◌}
-use Rattle.store_core.proofs.Common.{AreOpened, Free, HasOneEach, HoldsKey, IsKeyOf, IsNumbered, Open, OpenedKey, body, cases_eq, cell_state, count_by_more_no, count_by_more_yes, creation_of_state, false≢true, has_id, is_open, sum_by-cons}
+use Rattle.store_core.proofs.Common.{AreOpened, body, cases_eq, cell_state, count_by_more_no, count_by_more_yes, creation_of_state, false≢true, Free, has_id, HasOneEach, HoldsKey, is_open, IsKeyOf, IsNumbered, Open, OpenedKey, slice_get_within, sum_by-cons}
 use Rattle.std.proofs.lemmas.List.{take_all, length-append}
-use Rattle.std.proofs.lemmas.Option.{slice_get_within}
 use Rattle.key_cells.specs.declared.state.CellState as cell
 use Rattle.store_core.proofs.FoundMap.{HasEachOnce, AreKept, id_of}
 

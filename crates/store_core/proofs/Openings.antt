@@ -1,8 +1,6 @@
 -- What an opening finds, as keys of the one-thread store.
 use Rattle.std.proofs.Common.{IfSome, List, None, Option, Some, [], ap, arith, cond, drop, is_some, length, refl, slice_get, subst, suc, sym, take, true, ℕ, ◌+◌, ◌<◌, ◌∙◌, ◌∷◌, ◌≡◌, ◌≤◌}
-use Rattle.store_core.proofs.Common.{AreFound, AreOpened, Attributes, Finds, Free, HasKey, HoldsId, HoldsKey, IsFoundIn, IsKeyOf, IsNamed, IsNumbered, IsPersistent, Key, Open, OpenedKey, Present, Settings, Shows, Shut, Sound, Stored, Unsure, body, cell_state, content_at, content_of, content_there, creation_of_state, durable_keys, false≢true, found_in, gate, get_or-replicate, has_id, kept, opened_gate, place, start_of, stored}
-use Rattle.std.proofs.lemmas.Bool.{eqb-true}
-use Rattle.std.proofs.lemmas.List.{length-take, length-drop}
+use Rattle.store_core.proofs.Common.{AreFound, AreOpened, Attributes, body, cell_state, content_at, content_of, content_there, creation_of_state, durable_keys, eqb-true, false≢true, Finds, found_in, Free, gate, get_or-replicate, has_id, HasKey, HoldsId, HoldsKey, IsFoundIn, IsKeyOf, IsNamed, IsNumbered, IsPersistent, kept, Key, length-drop, length-take, Open, opened_gate, OpenedKey, place, Present, Settings, Shows, Shut, Sound, start_of, Stored, stored, Unsure}
 use Rattle.std.specs.FinMap as map
 use Rattle.key_cells.specs.declared.state.CellState as cell
 use Rattle.key_cells.proofs.Bodies.{of_one_key}

@@ -1,12 +1,11 @@
 -- A ranked turn that looked for a key.
 use Rattle.std.proofs.Common.{Err, IsErrOf, List, None, Option, Some, [], ap, arith, false, is_some, refl, subst, sym, true, ℕ, ◌++◌, ◌-◌, ◌<◌, ◌^◌, ◌∙◌, ◌∷◌, ◌≡◌}
-use Rattle.store_core.proofs.Common.{Agrees, AreHoldings, Corrupt, Disk, Entry, FaultCounts, FaultMark, GetAttributes, Holds, InvalidHandle, IsEntry, IsReading, IsTold, Key, KeySlots, KeyUse, Missing, OnStore, Opening, Pairs, Plain, Rose, Service, Slot, StandsFor, Status, Store, Unread, counted, few_of_one, is_persistent_key, mark_of, readers_out, reads_persistent, refused_so, replay, slot_at, status_of, use_refusal}
+use Rattle.store_core.proofs.Common.{Agrees, AreHoldings, Corrupt, counted, Disk, Entry, FaultCounts, FaultMark, few_of_one, GetAttributes, Holds, InvalidHandle, is_persistent_key, IsEntry, IsReading, IsRefused, IsTold, Key, KeySlots, KeyUse, mark_of, Missing, OnStore, Opening, Pairs, Plain, readers_out, reads_persistent, refused_so, replay, Rose, Service, Slot, slot_at, StandsFor, Status, status_of, Store, Unread, use_refusal}
 use Rattle.disk_face.specs.declared.Disk as Disk
 use Rattle.driver_dispatch.specs.declared.devices.Devices as Devices
 use Rattle.admission.specs.declared.rules.Admission as Admission
 use Rattle.std.specs.FinMap as map
 use Rattle.store_model.specs.Store as model
-use Rattle.store_core.specs.Uses.{IsRefused}
 use Rattle.store_core.proofs.Histories.{told_before, quiet_leaves}
 use Rattle.store_core.proofs.Holding.{turned}
 use Rattle.store_core.proofs.Changing.{ends_quiet}
@@ -68,11 +67,11 @@ module _ {D A C : Type 0} (disks : Disk.Ghosts D) (elements : Devices.Ghosts A) 
       (ends.0, subst P (sym ends.1) holds)
 
   -- a row refuses it
-  pub ends_refused : (rows : Option Key → Option Status) (status : Status) → IsPlain status → IsReading disks elements admits old start h e id →
-      (n : Holds disks elements admits (IsTold (disks.contents mid.file.cells.disk) start (h ++ e ∷ [])) mid start opening h all) → rows (map.get n.model.keys id) ≡ Some status →
-      IsEntry disks elements admits new (mark_of status) e → Ends (IsRefused rows id status)
-  ends_refused rows status plain is n refused turn =
-      ends_found mid.slots all (IsRefused rows id status) is n (plain.1 rows id (counted n.model) refused) n.slots n.holdings
+  pub ends_refused : (rows : Option Key → Option Status) (status : Status) (Q : model.Store → Type 0) → IsPlain status → IsReading disks elements admits old start h e id →
+      (n : Holds disks elements admits (IsTold (disks.contents mid.file.cells.disk) start (h ++ e ∷ [])) mid start opening h all) → rows (map.get n.model.keys id) ≡ Some status → Q (counted n.model) →
+      IsEntry disks elements admits new (mark_of status) e → Ends (λ m. IsRefused rows id status m × Q m)
+  ends_refused rows status Q plain is n refused also turn =
+      ends_found mid.slots all (λ m. IsRefused rows id status m × Q m) is n (plain.1 rows id (counted n.model) refused, also) n.slots n.holdings
       (subst (λ (mark : FaultMark). IsEntry disks elements admits new mark e) plain.0 turn)
 
   -- its key is not there, or could not be read

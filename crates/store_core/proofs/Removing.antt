@@ -1,10 +1,6 @@
 -- A store of which one key is removed.
 use Rattle.std.proofs.Common.{ne_eqb, Bool, List, None, Option, Some, ap, arith, cond, eq-eqb, false, inl, inr, length, refl, set, subst, sym, true, ℕ, ◌+◌, ◌<◌, ◌==◌, ◌∙◌, ◌≡◌, ◌≢◌, ◌⊎◌}
-use Rattle.store_core.proofs.Common.{Free, HeldKey, HeldKeys, HoldsHandle, HoldsKeys, IsDirectory, IsPut, IsSomeKey, IsSoundStore, Key, KeyMap, Lacks, Open, Puts, Stored, cases_eq, cases_lt, cell_state, destroyed, durable_keys, false≢true, get_or-map, get_or_past, held_key, is_volatile, kept, left, len_kept-insert, length-map, nat_cmp_total, settled_state, settled_states, stored, taken, unsigned_tied, without_key}
-use Rattle.std.proofs.lemmas.Bool.{eqb-true}
-use Rattle.std.proofs.lemmas.Option.{none-some, same_Some}
-use Rattle.std.proofs.lemmas.List.{get_or-set_same, get_or-set_other}
-use Rattle.std.specs.Option.{option_map}
+use Rattle.store_core.proofs.Common.{cases_eq, cases_lt, cell_state, destroyed, durable_keys, eqb-true, false≢true, Free, get_or-map, get_or-set_other, get_or-set_same, get_or_past, held_key, HeldKey, HeldKeys, HoldsHandle, HoldsKeys, is_volatile, IsDirectory, IsPut, IsSomeKey, IsSoundStore, kept, Key, KeyMap, Lacks, left, len_kept-insert, length-map, nat_cmp_total, none-some, Open, option_map, Puts, same_Some, settled_state, settled_states, Stored, stored, taken, unsigned_tied, without_key}
 use Rattle.std.specs.FinMap as map
 use Rattle.key_cells.specs.declared.state.CellState as cell
 use Rattle.store_model.specs.Store as model

@@ -1,8 +1,6 @@
 -- A store of which one key that is kept in the file has other attributes and bytes.
 use Rattle.std.proofs.Common.{eq-eqb, ne_eqb, Bool, List, None, Option, Some, ap, cond, false, inl, inr, nat_lt, refl, subst, sym, true, ℕ, ◌<◌, ◌==◌, ◌∙◌, ◌≡◌, ◌≢◌, ◌≤◌, ◌⊎◌}
-use Rattle.store_core.proofs.Common.{Agrees, Attributes, HeldKeys, HoldsHandle, HoldsKeys, IsDirectory, IsGone, IsKeyOf, IsSoundKey, IsSoundStore, Key, KeyMap, NoKey, Open, Pairs, Slot, cases_eq, cell_state, false≢true, holds_its_key, holds_key, is_opaque, is_volatile, is_volatile_of, len_kept-insert, nat_cmp_total, put, slot_at, taken}
-use Rattle.std.proofs.lemmas.Bool.{eqb-true}
-use Rattle.std.proofs.lemmas.Option.{same_Some}
+use Rattle.store_core.proofs.Common.{Agrees, Attributes, cases_eq, cell_state, eqb-true, false≢true, HeldKeys, holds_its_key, holds_key, HoldsHandle, HoldsKeys, is_opaque, is_volatile, is_volatile_of, IsDirectory, IsGone, IsKeyOf, IsSoundKey, IsSoundStore, Key, KeyMap, len_kept-insert, nat_cmp_total, NoKey, Open, Pairs, put, same_Some, Slot, slot_at, taken}
 use Rattle.std.specs.FinMap as map
 use Rattle.key_cells.specs.declared.state.CellState as cell
 use Rattle.store_model.specs.Store as model

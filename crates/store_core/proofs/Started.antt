@@ -1,7 +1,6 @@
 -- A store that was opened stands for a start, before any call.
 use Rattle.std.proofs.Common.{Bool, IfSome, List, None, Option, Some, [], ap, arith, count_by, false, is_some, length, nat_lt, refl, replicate, slice_get, slice_index, slice_index_or, subst, suc, sym, true, zero, ℕ, ◌+◌, ◌↔◌, ◌∙◌, ◌≡◌, ◌≤◌}
-use Rattle.store_core.proofs.Common.{Agrees, AreFound, AreHoldings, AreOpened, Attributes, HasKey, HasOneEach, HeldKeys, HoldsKeys, IsDirectory, IsHolding, IsNumbered, IsOpened, IsOpeningRefused, IsStart, IsVolatileKey, KeepsKeys, Key, KeyFile, Keys, Lacks, Memory, Open, OpenedKey, Opening, Pairs, Service, Settings, Sound, StandsFor, StandsForContents, StandsForKeys, Store, cell_state, count_by-le-length, durable_keys, empty_ones, empty_slot, false≢true, for_told, found_in, is_opaque, is_open, is_volatile, is_volatile_of, length-replicate, of_volatile, opening_of, service_start, some_weaker, stands_fits, start_of}
-use Rattle.std.proofs.lemmas.Bool.{lt-ltb}
+use Rattle.store_core.proofs.Common.{Agrees, AreFound, AreHoldings, AreOpened, Attributes, cell_state, count_by-le-length, durable_keys, empty_ones, empty_slot, false≢true, for_told, found_in, HasKey, HasOneEach, HeldKeys, HoldsKeys, is_opaque, is_open, is_volatile, is_volatile_of, IsDirectory, IsHolding, IsNumbered, IsOpened, IsOpeningRefused, IsStart, IsVolatileKey, KeepsKeys, Key, KeyFile, Keys, Lacks, length-replicate, lt-ltb, Memory, of_volatile, Open, OpenedKey, Opening, opening_of, Pairs, Service, service_start, Settings, some_weaker, Sound, stands_fits, StandsFor, StandsForContents, StandsForKeys, start_of, Store}
 use Rattle.disk_face.specs.declared.Disk as Disk
 use Rattle.driver_dispatch.specs.declared.devices.Devices as Devices
 use Rattle.admission.specs.declared.rules.Admission as Admission
@@ -123,8 +122,8 @@ module _ {D A C : Type 0} (disks : Disk.Ghosts D) (elements : Devices.Ghosts A) 
     sounds = some_weaker (disks.contents first) (λ image. StandsForContents disks disk slots (found_in image)) (λ image. (read : List ℕ) → disks.may_leave disk read → Sound slots (found_in image) read) (λ image s. s.each) new.file.stands
 
     -- there is a start
-    pub starts : (settings : Settings) → settings.seed ≡ store.opened.seed.value → settings.labels ≡ admits.labels store.rules → settings.locations ≡ elements.locations store.devices → settings.has_file ≡ true → (start : Service) × Start store.opened start
-    starts settings seed_is labels_are locations_are has_file =
+    pub starts : (settings : Settings) → settings.seed ≡ store.opened.seed.value → settings.labels ≡ admits.labels store.rules → settings.locations ≡ elements.locations store.devices → (start : Service) × Start store.opened start
+    starts settings seed_is labels_are locations_are =
         let keys = some_opened (disks.contents disk) slots new.file.sized new.file.numbered (cell_key slots (disks.contents first) (disks.contents disk) (disks.may_leave disk) new.file.named new.file.tells new.file.found sounds reads) in (
           service_start settings keys.0,
           record {
@@ -134,7 +133,6 @@ module _ {D A C : Type 0} (disks : Disk.Ghosts D) (elements : Devices.Ghosts A) 
             seed_is = seed_is;
             labels_are = labels_are ∙ ap admits.labels (sym new.saw_rules);
             locations_are = locations_are ∙ ap elements.locations (sym new.saw_devices);
-            has_file = has_file;
             keys = subst (λ (f : KeyFile D). AreOpened (disks.contents f.cells.disk) f.cells.states.items keys.0) (sym new.saw_file) keys.1;
           },
         )
@@ -210,9 +208,9 @@ module _ {D A C : Type 0} (disks : Disk.Ghosts D) (elements : Devices.Ghosts A) 
             model = m;
             replayed = λ k. store_is;
             sound = store_starts settings found (are_found m found kept once) few_keys;
+            settings = ap (λ (x : Service). x.store.settings) (sym s.is);
             labels_are = s.labels_are ∙ ap admits.labels new.saw_rules;
             locations_are = s.locations_are ∙ ap elements.locations new.saw_devices;
-            has_file = s.has_file;
             found = are.count ∙ sym new.found;
             few = omega (arith, new.found, count_by-le-length is_open slots, new.file.sized);
             calls = sym new.ranked;
@@ -227,6 +225,7 @@ module _ {D A C : Type 0} (disks : Disk.Ghosts D) (elements : Devices.Ghosts A) 
             file = file;
             sure = λ tells none. opened_sure (disks.contents first) slots sized new.file.found (sym new.file.tells ∙ tells);
             promise = λ tells. promise_starts start only_now (subst (λ (x : model.Store). StandsForKeys disks disk slots (durable_keys x) []) store_is (file tells));
+            freed = λ tells. ([], refl, tt);
             caused = tt;
             allowed = λ t. tt;
           };

@@ -1,8 +1,7 @@
 -- Directories without a cell in doubt, and what is in the cells of their files.
 use Rattle.std.proofs.Common.{IfSome, List, None, Option, Some, [], ap, arith, inl, inr, is_some, length, refl, set, subst, sym, true, ℕ, ◌<◌, ◌∙◌, ◌∷◌, ◌≡◌, ◌⊎◌}
-use Rattle.store_core.proofs.Common.{Absent, Content, Doubt, Doubtful, Finds, Free, HasKeyOrZeros, HoldsKey, IsFoundIn, IsSure, Keys, Open, Present, Shows, Shut, StandsForKeys, Stored, TellsCell, Unsure, body, cell_state, closed, content_at, false≢true, gate, get_or-map, get_or-replicate, map-set, opened_gate, settled_state, settled_states, stored, zeros}
+use Rattle.store_core.proofs.Common.{Absent, body, cell_state, CellState, closed, Content, content_at, Doubt, Doubtful, false≢true, Finds, Free, gate, get_or-map, get_or-replicate, HasKeyOrIsClosed, HasKeyOrZeros, HoldsKey, IsDoubtedIn, IsFoundIn, IsSure, Keys, map-set, Open, opened_gate, Present, settled_state, settled_states, Shows, Shut, StandsForKeys, Stored, stored, TellsCell, Unsure, zeros}
 use Rattle.disk_face.specs.declared.Disk as Disk
-use Rattle.key_cells.specs.declared.state.CellState.{CellState}
 use Rattle.key_cells.proofs.Clearing.{all_settled}
 use Rattle.persistent_keys.proofs.Filing.{settled_twice}
 use Rattle.store_core.proofs.Wiped.{shows_free}
@@ -46,3 +45,18 @@ sure_cells disks disk slots keys doubt s sure image left cell lt =
     let sized = s.filed.sized in
     let settled : settled_state (cell_state slots cell) ≡ cell_state slots cell = sym (get_or-map settled_state slots cell Free Free (omega arith)) ∙ ap (λ (l : List CellState). cell_state l cell) sure in
     sure_cell keys doubt (cell_state slots cell) (content_at s.contents cell) (gate cell image) (body cell image) settled ((s.stands.each image left).each cell lt) (s.filed.each cell lt)
+
+-- where keys are in doubt, it has a key, or the body of one of these, or is closed
+any_cell : (keys : Keys) (doubt : Doubt) (slot : CellState) (content : Content) (g b : List ℕ) → Shows slot content g b → TellsCell keys doubt slot content →
+    HasKeyOrNothing keys g b ⊎ (IsDoubtedIn doubt b ⊎ (g ≡ closed))
+any_cell keys doubt Free content g b shows tells = inl (sure_cell keys doubt Free content g b refl shows tells)
+any_cell keys doubt (Open id number) content g b shows tells = inl (sure_cell keys doubt (Open id number) content g b refl shows tells)
+any_cell keys doubt Shut Absent g b shows tells = inr (inr shows)
+any_cell keys doubt Shut (Doubtful bytes) g b shows tells = inr (inr shows)
+any_cell keys doubt Unsure (Doubtful bytes) g b shows tells = inr (inl (subst (IsDoubtedIn doubt) (sym shows) tells))
+any_cell keys doubt slot content g b shows tells = absurd shows
+
+pub any_cells : {D : Type 0} (disks : Disk.Ghosts D) (disk : D) (slots : List CellState) (keys : Keys) (doubt : Doubt) → StandsForKeys disks disk slots keys doubt →
+    (image : List ℕ) → disks.may_leave disk image → (cell : ℕ) → cell < 512 → HasKeyOrIsClosed keys doubt cell image
+any_cells disks disk slots keys doubt s image left cell lt =
+    any_cell keys doubt (cell_state slots cell) (content_at s.contents cell) (gate cell image) (body cell image) ((s.stands.each image left).each cell lt) (s.filed.each cell lt)

@@ -1,12 +1,9 @@
 -- Cells that stay zeros over the calls of a turn.
 use Rattle.std.proofs.Common.{List, None, Option, [], ap, arith, cond, length, refl, set, subst, sym, true, ℕ, ⊎_elim, ◌<◌, ◌==◌, ◌∙◌, ◌∷◌, ◌≡◌}
-use Rattle.store_core.proofs.Common.{FileStaysZeros, Free, HasZeros, IsDirectory, KeyFile, Keys, LeavesZeros, Open, StaysFree, Store, Stored, Within, cell_state, false≢true, has_id, last_store, length-map, settled_state, settled_states, stays, within_both, within_none}
-use Rattle.std.proofs.lemmas.Option.{none-some}
+use Rattle.store_core.proofs.Common.{cell_state, eqb-true, false≢true, FileStaysZeros, Free, get_or-set_same, has_id, HasZeros, IsDirectory, KeyFile, Keys, last_store, LeavesZeros, length-map, none-some, Open, settled_state, settled_states, stays, StaysFree, Store, Stored, Within, within_both, within_none}
 use Rattle.disk_face.specs.declared.Disk as Disk
 use Rattle.driver_dispatch.specs.declared.devices.Devices as Devices
 use Rattle.admission.specs.declared.rules.Admission as Admission
-use Rattle.std.proofs.lemmas.Bool.{eqb-true}
-use Rattle.std.proofs.lemmas.List.{get_or-set_same}
 use Rattle.key_cells.specs.declared.state.CellState as cell
 use Rattle.persistent_keys.specs.Calls.{KeepsFile}
 use Rattle.std.specs.FinMap as finmap

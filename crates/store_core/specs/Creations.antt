@@ -23,7 +23,7 @@ use Rattle.store_core.specs.declared.creating.NotMade.TheVariants as unmade
 use Rattle.store_core.specs.declared.copying.NotCopied.{NotCopied}
 use Rattle.store_core.specs.declared.copying.NotCopied.TheVariants as uncopied
 use Rattle.store_core.specs.Durability.{is_destruction}
-use Rattle.store_core.specs.Represents.{Told, Holds, Opening, StandsFor, IsEntry}
+use Rattle.store_core.specs.Represents.{HasModel, Told, Holds, Opening, StandsFor, IsEntry}
 use Rattle.store_core.specs.Uses.{status_of, mark_of, there_rows, IsRefused}
 
 -- WHAT IS DECIDED
@@ -89,6 +89,16 @@ module _ (records : model.Store → Result Attributes Status → Type 0) where
 abbrev pub OnUnread : NotCopied → Type 0 → Type 0
 OnUnread (uncopied.Unread why) P = P
 OnUnread (uncopied.NotMade why) P = Unit {0}
+
+-- where a row refuses the key
+abbrev pub OnRefused : NotMade → Type 0 → Type 0
+OnRefused (unmade.Refused status) P = P
+OnRefused (unmade.Failed why) P = Unit {0}
+
+-- where a copy was not begun, as its source could not be read or a row refuses it
+abbrev pub OnUnbegun : NotCopied → Type 0 → Type 0
+OnUnbegun (uncopied.Unread why) P = P
+OnUnbegun (uncopied.NotMade why) P = OnRefused why P
 
 -- a lease, where there is one, is out
 abbrev pub IsAmong : Option lent.Reading → List Pairs → Type 0
@@ -204,7 +214,7 @@ module _ {D A C : Type 0} (disks : Disk.Ghosts D) (elements : Devices.Ghosts A) 
   abbrev pub Copies : (old new : Store D A C) (caller source : ℕ) → Attributes → ℕ × ℕ → FaultMark → (model.Store → Type 0) → Type 0
   Copies old new caller source stated p mark P = (start : Service) (opening : Opening) (h : List Entry) (all less : List Pairs) (e : Entry) →
       StandsForHere old start opening h all → Gains less all p → AreHoldings less → e.caller ≡ caller → e.call ≡ OnStore (Copy source stated) → IsEntryHere new mark e →
-      StandsForHere new start opening (h ++ e ∷ []) less × (m : model.Store) × (ToldHere new start (h ++ e ∷ []) → m ≡ (replay start h).store) × P m
+      StandsForHere new start opening (h ++ e ∷ []) less × HasModel (ToldHere new start (h ++ e ∷ [])) start h P
 
   abbrev pub CopiesMade : (old new : Store D A C) (caller source : ℕ) → Attributes → (filling id : ℕ) → Type 0
   CopiesMade old new caller source stated filling id = Copies old new caller source stated (filling, 0) Plain (IsMade (RecordsCopy caller source stated) caller id)

@@ -1,4 +1,5 @@
 pub mod Durability
+pub mod Freed
 pub mod Represents
 pub mod Rising
 pub mod Start
@@ -7,5 +8,6 @@ pub mod Creations
 pub mod Opaque
 pub mod Zeros
 pub mod Promises
+pub mod Refusals
 pub mod Destructions
 pub mod Prelude

@@ -9,7 +9,7 @@ use Rattle.psa_status.specs.Rows.{first_row}
 use Rattle.driver_dispatch.specs.Held.{HeldKeys}
 use Rattle.key_slots.specs.Holdings.{Pairs}
 use Rattle.store_model.specs.Store as model
-use Rattle.store_model.specs.Prelude.{Call, buffer_after, FaultMark, marked_reply, Service, Entry, OnStore}
+use Rattle.store_model.specs.Prelude.{Call, buffer_after, is_opaque_key, FaultMark, marked_reply, Service, Entry, OnStore}
 use Rattle.secure_element_calls.specs.declared.calls.ElementCall.{ElementCall}
 use Rattle.secure_element_calls.specs.declared.calls.NotComputed.{NotComputed}
 use Rattle.secure_element_calls.specs.declared.calls.NotComputed.TheVariants.{Refused, Failed}
@@ -19,9 +19,10 @@ use Rattle.secure_element_calls.specs.Replies.{all_rows, reply_on}
 use Rattle.store_core.specs.declared.store.Store.{Store}
 use Rattle.store_core.specs.Represents.{IsEntry, Opening, StandsFor}
 
--- What a call answers, and what it makes of its output buffer, by what the model has at its key's identifier. Over a device
--- that doesn't tell its keys, what the element computes is whatever it is.
+-- What a call answers, and what it makes of its output buffer, by the key of the element that the model has at its key's
+-- identifier. Over a device that doesn't tell its keys, what the element computes is whatever it is.
 pub record IsElementAnswered (held : Option HeldKeys) (id : ℕ) (call : ElementCall) (old new : List ℕ) (result : Result ℕ NotComputed) (m : model.Store) : Type 0 where
+  pub opaque : is_opaque_key (map.get m.keys id) ≡ true
   pub decided : MatchOption (first_row (all_rows call (length old) (map.get m.keys id))) (IsOfElement call result) (λ status. result ≡ Err (Refused status))
   pub reply : is_some held ≡ true → AnswersCall call result (marked_reply (mark_computed result) (reply_on call (length old) (map.get m.keys id)))
   pub buffer : is_some held ≡ true → new ≡ buffer_after old (marked_reply (mark_computed result) (reply_on call (length old) (map.get m.keys id)))

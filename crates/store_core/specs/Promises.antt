@@ -13,6 +13,7 @@ use Rattle.key_slots.specs.Holdings.{Pairs, named}
 use Rattle.store_model.specs.Prelude.{HasNumber, IsSound, Service, Plain, plain_step, Entry, replay, GainsNothing, IsCaller, found_made, made_after}
 use Rattle.store_core.specs.declared.store.Store.{Store}
 use Rattle.store_core.specs.Durability.{FitsPrefix, course_of, durable_keys}
+use Rattle.store_core.specs.Freed.{FreedCellsAreZeros}
 use Rattle.store_core.specs.Represents.{IsTold, LeavesKeys, Opening, Stands, StandsFor}
 use Rattle.store_core.specs.Zeros.{HasKeyOrZeros, StaysFree, last_store}
 
@@ -54,6 +55,11 @@ module _ {D A C : Type 0} (disks : Disk.Ghosts D) (elements : Devices.Ghosts A) 
   LeavesZerosSince = (turns : List (Store D A C)) (cell : ℕ) → cell < 512 → cell_state store.file.cells.states.items cell ≡ Free →
       Stands disks elements admits store → is_some (disks.contents store.file.cells.disk) ≡ true → StaysFree disks elements admits cell store turns →
       (image : List ℕ) → disks.left_since (last_store store turns).file.cells.disk (disks.moment store.file.cells.disk) image → HasZeros cell image
+
+  -- the cells that the history has freed are all zeros since, until a creation takes them
+  abbrev pub LeavesFreedCellsZeros : Type 0
+  LeavesFreedCellsZeros = (start : Service) (opening : Opening) (h : List Entry) (all : List Pairs) → StandsFor disks elements admits store start opening h all →
+      is_some (disks.contents store.file.cells.disk) ≡ true → FreedCellsAreZeros (disks.left_since store.file.cells.disk) start h
 
   -- ON SLOTS
 

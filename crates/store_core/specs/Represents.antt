@@ -13,9 +13,10 @@ use Rattle.key_slots.specs.Standing.{Agrees}
 use Rattle.driver_dispatch.specs.Held.{HeldKeys}
 use Rattle.driver_dispatch.specs.Calls.{HoldsHandle, Lacks}
 use Rattle.store_model.specs.Store as model
-use Rattle.store_model.specs.Prelude.{Key, is_volatile, is_opaque, count_persistent, live_volatile, Destroy, FaultMark, Plain, counted, OnStore, IsSoundStore, may_change_keys, Service, Entry, outcome_of, replay, FaultCounts, key_changed, id_read, reads_persistent, IsCaused, AreAllowed, last_counts}
+use Rattle.store_model.specs.Prelude.{Key, is_volatile, is_opaque, is_opaque_key, count_persistent, live_volatile, Destroy, FaultMark, Plain, counted, OnStore, IsSoundStore, may_change_keys, Service, Entry, outcome_of, replay, FaultCounts, key_changed, id_read, reads_persistent, IsCaused, AreAllowed, last_counts}
 use Rattle.store_core.specs.declared.store.Store.{Store}
 use Rattle.store_core.specs.Durability.{durable_keys, course_of, KeepsKeys}
+use Rattle.store_core.specs.Freed.{HaveFreed, IsFreeSince}
 
 -- no entry reads a persistent key
 abbrev pub ReadsNone : Service → List Entry → Type 0
@@ -41,6 +42,16 @@ pub record HoldsKeys (held : Option HeldKeys) (m : model.Store) : Type 0 where
       HoldsHandle held key.number (λ h. h ≡ record { key_type = key.attributes.key_type.0; bytes = key.bytes })
   pub new : (handle : ℕ) → m.found + m.calls ≤ handle → Lacks held handle
 
+-- There is a model of which P holds: sound, with the start's settings and a call for each entry, and where K holds the one-thread
+-- store after the history.
+pub record HasModel (K : Type 0) (start : Service) (h : List Entry) (P : model.Store → Type 0) : Type 0 where
+  pub model : model.Store
+  pub replayed : K → model ≡ (replay start h).store
+  pub sound : IsSoundStore model
+  pub settings : model.settings ≡ start.store.settings
+  pub calls : model.calls ≡ length h
+  pub holds : P model
+
 -- a store after one more ranked turn
 abbrev pub ranked_on : {D A C : Type 0} → Store D A C → Store D A C
 ranked_on store = record store { ranked = store.ranked + 1 }
@@ -56,15 +67,16 @@ module _ {D A C : Type 0} (disks : Disk.Ghosts D) (elements : Devices.Ghosts A) 
   Told store start h = IsTold (disks.contents store.file.cells.disk) start h
 
   -- The store holds the keys of a model: its slots, its directory and its device have them, and its file those that are
-  -- durable. Where K holds, the model is the one-thread store after the history. Where no key is in doubt, no cell is. Each
-  -- crash since the opening leaves what is promised, and no mark of the history is without its fault.
+  -- durable. The model has the start's settings. Where K holds, it is the one-thread store after the history. Where no key is in
+  -- doubt, no cell is. Each crash since the opening leaves what is promised, the cells that were freed are free and zeros, and no
+  -- mark of the history is without its fault.
   pub record Holds (K : Type 0) (store : Store D A C) (start : Service) (opening : Opening) (h : List Entry) (all : List Pairs) : Type 0 where
     pub model : model.Store
     pub replayed : K → model ≡ (replay start h).store
     pub sound : IsSoundStore model
+    pub settings : model.settings ≡ start.store.settings
     pub labels_are : model.settings.labels ≡ admits.labels store.rules
     pub locations_are : model.settings.locations ≡ elements.locations store.devices
-    pub has_file : model.settings.has_file ≡ true
     pub found : model.found ≡ store.found
     pub few : store.found ≤ 512
     pub calls : model.calls ≡ store.ranked
@@ -80,6 +92,7 @@ module _ {D A C : Type 0} (disks : Disk.Ghosts D) (elements : Devices.Ghosts A) 
         StandsForThese disks store.file (durable_keys model) (course_of start h).doubt
     pub sure : is_some (disks.contents store.file.cells.disk) ≡ true → (course_of start h).doubt ≡ [] → IsSure store.file.cells.states.items
     pub promise : is_some (disks.contents store.file.cells.disk) ≡ true → KeepsKeys (disks.left_since store.file.cells.disk) (disks.moment store.file.cells.disk) opening.moment start h
+    pub freed : is_some (disks.contents store.file.cells.disk) ≡ true → HaveFreed (IsFreeSince disks store.file.cells.disk store.file.cells.states.items) start h
     pub caused : IsCaused (is_some (disks.contents store.file.cells.disk)) opening.counts h
     pub allowed : Told store start h → AreAllowed start h
 
@@ -112,6 +125,10 @@ module _ {D A C : Type 0} (disks : Disk.Ghosts D) (elements : Devices.Ghosts A) 
   -- P holds of the model, whatever the store stands for
   abbrev pub HoldsOf : Store D A C → (model.Store → Type 0) → Type 0
   HoldsOf store P = (start : Service) (opening : Opening) (h : List Entry) (all : List Pairs) (s : StandsFor store start opening h all) → P s.holds.model
+
+  -- the key of an identifier is the secure element's
+  abbrev pub HasOpaque : Store D A C → (id : ℕ) → Type 0
+  HasOpaque store id = HoldsOf store (λ m. is_opaque_key (map.get m.keys id) ≡ true)
 
   module _ (old new : Store D A C) where
     -- A turn without rank gives a pair out, takes one back, or leaves all.

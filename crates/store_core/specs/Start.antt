@@ -2,7 +2,7 @@
 use Rattle.disk_face.specs.declared.Disk as Disk
 use Rattle.driver_dispatch.specs.declared.devices.Devices as Devices
 use Rattle.admission.specs.declared.rules.Admission as Admission
-use Rattle.std.specs.Prelude.{◌≡◌, ◌<◌, ◌≤◌, ◌↔◌, ℕ, true, List, [], length, replicate, count_by, slice_get, Option, Some, IfSome}
+use Rattle.std.specs.Prelude.{◌≡◌, ◌<◌, ◌≤◌, ◌↔◌, ℕ, List, [], length, replicate, count_by, slice_get, Option, Some, IfSome}
 use Rattle.key_cells.specs.declared.state.CellState as cell
 use Rattle.key_cells.specs.declared.state.CellState.TheVariants.{Open}
 use Rattle.key_cells.specs.Prelude.{body, cell_state, is_open, IsKeyOf, HoldsKey, HasKey}
@@ -28,7 +28,6 @@ module _ {D A C : Type 0} (disks : Disk.Ghosts D) (elements : Devices.Ghosts A) 
     pub seed_is : settings.seed ≡ opened.seed.value
     pub labels_are : settings.labels ≡ admits.labels opened.rules.value
     pub locations_are : settings.locations ≡ elements.locations opened.devices.value
-    pub has_file : settings.has_file ≡ true
     pub keys : AreOpened (disks.contents opened.file.value.cells.disk) opened.file.value.cells.states.items found
 
   -- the disk's moment and the counts of faults as the opening answered

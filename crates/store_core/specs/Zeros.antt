@@ -5,9 +5,9 @@ use Rattle.admission.specs.declared.rules.Admission as Admission
 use Rattle.std.specs.Prelude.{◌≡◌, ◌<◌, ◌⊎◌, ℕ, true, List, [], ◌∷◌, Some, is_some}
 use Rattle.disk_face.specs.Moments.{Within}
 use Rattle.key_cells.specs.declared.state.CellState.TheVariants.{Free}
-use Rattle.key_cells.specs.Prelude.{gate, body, opened_gate, HasZeros, cell_state, HoldsKey}
+use Rattle.key_cells.specs.Prelude.{gate, body, closed, opened_gate, HasZeros, cell_state, HoldsKey}
 use Rattle.persistent_keys.specs.declared.file.KeyFile.{KeyFile}
-use Rattle.persistent_keys.specs.Files.{Stored, Keys, Doubt}
+use Rattle.persistent_keys.specs.Files.{Stored, Keys, Doubt, IsDoubtedIn}
 use Rattle.persistent_keys.specs.Calls.{StandsForThese}
 use Rattle.key_slots.specs.Holdings.{Pairs}
 use Rattle.store_model.specs.Prelude.{Service, Entry}
@@ -17,6 +17,10 @@ use Rattle.store_core.specs.Represents.{Opening, Stands, StandsFor}
 -- a cell of an image has one of these keys, or is all zeros
 abbrev pub HasKeyOrZeros : Keys → ℕ → List ℕ → Type 0
 HasKeyOrZeros keys cell image = ((id : ℕ) × (key : Stored) × (keys id ≡ Some key) × (gate cell image ≡ opened_gate) × HoldsKey key.attributes key.bytes (body cell image)) ⊎ HasZeros cell image
+
+-- and where keys are in doubt: it has the whole body of one of these too, whatever its gate, or is closed
+abbrev pub HasKeyOrIsClosed : Keys → Doubt → ℕ → List ℕ → Type 0
+HasKeyOrIsClosed keys doubt cell image = HasKeyOrZeros keys cell image ⊎ (IsDoubtedIn doubt (body cell image) ⊎ (gate cell image ≡ closed))
 
 -- a cell that is free before calls and after them is all zeros in every image that a crash within them leaves
 abbrev pub LeavesZeros : {D : Type 0} (disks : Disk.Ghosts D) (old new : KeyFile D) → Type 0

@@ -10,10 +10,11 @@ ghost use Rattle.key_slots.specs.Wiping.{EndsOnly, IsFillingOf, IsTakenOf};
 ghost use Rattle.store_model.specs.Store as model;
 ghost use Rattle.store_model.specs.Prelude.{Key, is_opaque, recorded_copy};
 ghost use Rattle.store_core.specs.Represents.{HasOut, ranked_on};
+ghost use Rattle.store_core.specs.Refusals.{WritesNothing};
 ghost use Rattle.store_core.specs.Rising.{NoFewerFaults};
 ghost use Rattle.store_core.specs.Zeros.{StaysZeros};
 ghost use Rattle.store_core.specs.Uses.{KeepsOrEmpties};
-ghost use Rattle.store_core.specs.Creations.{CopiesMade, CopiesUnmade, HoldsWithin, OnUnread, status_uncopied};
+ghost use Rattle.store_core.specs.Creations.{CopiesMade, CopiesUnmade, HoldsWithin, OnUnbegun, OnUnread, status_uncopied};
 
 use crate::Store;
 use crate::creating::NotMade;
@@ -47,7 +48,8 @@ impl NotCopied {
 
 impl<D: Disk, A: Devices, C: Admission> Store<D, A, C> {
     /// Makes a key of a source's bytes, with what both its policy and the stated one permit, in the slot that waits for it, and
-    /// answers its identifier. A key of the secure element is copied there. The slot is given up where no key is made. Ranked.
+    /// answers its identifier. A key of the secure element is copied there. The slot is given up where no key is made. A refusal
+    /// writes nothing to the disk and calls no device. Ranked.
     pub fn copy(
         &mut self,
         caller: u8,
@@ -68,6 +70,7 @@ impl<D: Disk, A: Devices, C: Admission> Store<D, A, C> {
         ensures wipes { (slot : ℕ) × EndsOnly self.old.slots.table.slots self.new.slots.table.slots (λ i s. IsFillingOf filling.slot i s ⊎ IsTakenOf slot i s) }
         ensures emptied { OnErr result (slot_at self.new.slots.table.slots filling.slot ≡ empty_slot) }
         ensures unread { IfErr result (λ why. OnUnread why (KeepsOrEmpties self.old.slots.table.slots self.new.slots.table.slots)) }
+        ensures unwritten { IfErr result (λ why. OnUnbegun why (WritesNothing D.Disk self.old self.new)) }
         ensures zeros { StaysZeros D.Disk A.Devices C.Admission self.old self.new }
         ensures later { NoFewerFaults D.faults A.faults self.old self.new }
         ensures tells { StillTells (D.contents self.old.file.cells.disk) (D.contents self.new.file.cells.disk) }

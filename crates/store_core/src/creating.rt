@@ -13,9 +13,10 @@ ghost use Rattle.key_slots.specs.Standing.{IsOut};
 ghost use Rattle.key_slots.specs.Wiping.{EndsOnly, IsFillingOf};
 ghost use Rattle.store_model.specs.Prelude.{first_volatile, is_opaque, is_volatile, identified};
 ghost use Rattle.store_core.specs.Represents.{ranked_on};
+ghost use Rattle.store_core.specs.Refusals.{CallsNothing};
 ghost use Rattle.store_core.specs.Rising.{NoFewerFaults};
 ghost use Rattle.store_core.specs.Zeros.{FileStaysZeros, StaysZeros};
-ghost use Rattle.store_core.specs.Creations.{CreatesMade, CreatesUnmade, EntersMade, EntersUnkept, FillsWith, HasOutBeside, HoldsLent, IsSomeReady, RecordsStated, StandsLent, status_unkept, status_unmade};
+ghost use Rattle.store_core.specs.Creations.{CreatesMade, CreatesUnmade, EntersMade, EntersUnkept, FillsWith, HasOutBeside, HoldsLent, IsSomeReady, OnRefused, RecordsStated, StandsLent, status_unkept, status_unmade};
 
 use crate::Store;
 use admission::Admission;
@@ -72,8 +73,8 @@ impl NotMade {
 
 impl<D: Disk, A: Devices, C: Admission> Store<D, A, C> {
     /// Makes a key of these bytes in the slot that waits for it, and answers its identifier. A creation by an operation comes
-    /// with the lease of the operation's key, and is refused where that is gone. The slot is given up where no key is made.
-    /// Ranked.
+    /// with the lease of the operation's key, and is refused where that is gone. The slot is given up where no key is made. A
+    /// refusal calls neither disk nor device. Ranked.
     pub fn finish(
         &mut self,
         caller: u8,
@@ -95,6 +96,7 @@ impl<D: Disk, A: Devices, C: Admission> Store<D, A, C> {
             attributes.now bytes.now filling.slot why) }
         ensures wipes { EndsOnly self.old.slots.table.slots self.new.slots.table.slots (IsFillingOf filling.slot) }
         ensures emptied { OnErr result (slot_at self.new.slots.table.slots filling.slot ≡ empty_slot) }
+        ensures untouched { IfErr result (λ why. OnRefused why (CallsNothing self.old self.new)) }
         ensures zeros { StaysZeros D.Disk A.Devices C.Admission self.old self.new }
         ensures later { NoFewerFaults D.faults A.faults self.old self.new }
         ensures tells { StillTells (D.contents self.old.file.cells.disk) (D.contents self.new.file.cells.disk) }

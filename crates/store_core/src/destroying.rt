@@ -17,6 +17,7 @@ ghost use Rattle.key_slots.specs.Wiping.{EndsOnly};
 ghost use Rattle.store_model.specs.Prelude.{is_opaque, destroy_rows, Plain};
 ghost use Rattle.store_core.specs.Represents.{Destroys, Stands, ranked_on};
 ghost use Rattle.store_core.specs.Destructions.{DestroysUnsure};
+ghost use Rattle.store_core.specs.Refusals.{CallsNothing};
 ghost use Rattle.store_core.specs.Rising.{NoFewerFaults};
 ghost use Rattle.store_core.specs.Uses.{EndsSlotsOf, Forgets, FreesCellsOf, IsForgotten, MayDestroy, status_undestroyed};
 ghost use Rattle.store_core.specs.Zeros.{FileStaysZeros, StaysZeros};
@@ -53,7 +54,8 @@ impl NotDestroyed {
 
 impl<D: Disk, A: Devices, C: Admission> Store<D, A, C> {
     /// Destroys a key. Its slot is wiped where nobody reads it, and else waits for its last reader. On success its cell is free,
-    /// and so all zeros, and the secure element has the key no more. Destroying no key, by the identifier 0, succeeds. Ranked.
+    /// and so all zeros, and the secure element has the key no more. Destroying no key, by the identifier 0, succeeds. Neither
+    /// then nor where the key is missing are disk or device called. Ranked.
     pub fn destroy(&mut self, id: KeyId) -> Result<(), NotDestroyed>
         requires stands { Stands D.Disk A.Devices C.Admission self.old }
         requires size { D.size self.old.file.cells.disk ≡ 557120 }
@@ -66,6 +68,8 @@ impl<D: Disk, A: Devices, C: Admission> Store<D, A, C> {
         ensures forgotten { OnOk result (Forgets id.0 self.old.slots.table.slots (A.keys self.old.devices) (A.keys self.new.devices)) }
         ensures unasked { NoKey id.0 self.old.slots.table.slots → self.new.devices ≡ self.old.devices }
         ensures freed { OnOk result (FreesCellsOf id.0 self.old.file.cells.states.items self.new.file.cells.states.items) }
+        ensures untouched { IsErrOf result NotDestroyed.Missing → CallsNothing self.old self.new }
+        ensures nothing { id.0 ≡ 0 → CallsNothing self.old self.new }
         ensures zeros { StaysZeros D.Disk A.Devices C.Admission self.old self.new }
         ensures later { NoFewerFaults D.faults A.faults self.old self.new }
         ensures tells { StillTells (D.contents self.old.file.cells.disk) (D.contents self.new.file.cells.disk) }
@@ -99,6 +103,7 @@ impl<D: Disk, A: Devices, C: Admission> Store<D, A, C> {
         ensures size { D.size self.new.file.cells.disk ≡ 557120 }
         ensures destroyed { OnOk result (Destroys D.Disk A.Devices C.Admission self.old (ranked_on self.new) id.0 Plain (MayDestroy id.0)) }
         ensures failed { IfErr result (λ why. DestroysUnsure D.Disk A.Devices C.Admission self.old (ranked_on self.new) id.0 why) }
+        ensures missing { IsErrOf result NotDestroyed.Missing → ⊥ }
         ensures wipes { EndsOnly self.old.slots.table.slots self.new.slots.table.slots (λ i s. holds_key id.0 s ≡ true) }
         ensures ended { EndsSlotsOf id.0 self.old.slots.table.slots self.new.slots.table.slots }
         ensures forgotten { OnOk result (Forgets id.0 self.old.slots.table.slots (A.keys self.old.devices) (A.keys self.new.devices)) }
@@ -134,6 +139,7 @@ impl<D: Disk, A: Devices, C: Admission> Store<D, A, C> {
         ensures size { D.size self.new.file.cells.disk ≡ 557120 }
         ensures destroyed { OnOk result (Destroys D.Disk A.Devices C.Admission self.old (ranked_on self.new) id.0 Plain (MayDestroy id.0)) }
         ensures failed { IfErr result (λ why. DestroysUnsure D.Disk A.Devices C.Admission self.old (ranked_on self.new) id.0 why) }
+        ensures missing { IsErrOf result NotDestroyed.Missing → ⊥ }
         ensures wipes { EndsOnly self.old.slots.table.slots self.new.slots.table.slots (λ i s. holds_key id.0 s ≡ true) }
         ensures ended { EndsSlotsOf id.0 self.old.slots.table.slots self.new.slots.table.slots }
         ensures forgotten { OnOk result (Forgets id.0 self.old.slots.table.slots (A.keys self.old.devices) (A.keys self.new.devices)) }

@@ -1,12 +1,14 @@
 //! The turn that lends a key.
-ghost use Rattle.std.specs.Prelude.{◌≡◌, ◌<◌, ◌^◌, ◌+◌, IfOk, IfErr};
+ghost use Rattle.std.specs.Prelude.{◌≡◌, ◌<◌, ◌^◌, ◌+◌, true, IfOk, IfErr};
+ghost use Rattle.std.specs.FinMap as map;
 ghost use Rattle.psa_status.specs.declared.Status.TheVariants.{InvalidHandle};
 ghost use Rattle.disk_face.specs.Disk.{StillTells};
 ghost use Rattle.secret_bytes.specs.Buffer.{IsClear, bytes_of};
 ghost use Rattle.key_slots.specs.Wiping.{TakesOne};
 ghost use Rattle.key_policy.specs.Uses.{FitsUse, use_refusal};
-ghost use Rattle.store_model.specs.Prelude.{Plain};
-ghost use Rattle.store_core.specs.Represents.{Reads, ReadsAndGives, Stands};
+ghost use Rattle.store_model.specs.Prelude.{Plain, is_opaque_key};
+ghost use Rattle.store_core.specs.Represents.{HasOpaque, Reads, ReadsAndGives, Stands};
+ghost use Rattle.store_core.specs.Refusals.{CallsNothing, WritesNothing};
 ghost use Rattle.store_core.specs.Rising.{NoFewerFaults};
 ghost use Rattle.store_core.specs.Uses.{IsLent, IsRefused, KeepsOrEmpties, mark_of};
 ghost use Rattle.store_core.specs.Zeros.{StaysZeros};
@@ -24,7 +26,7 @@ use slot_table::Lease;
 impl<D: Disk, A: Devices, C: Admission> Store<D, A, C> {
     /// Lends a key's bytes for what the key is looked for, in a clear spare, which comes back where that is refused:
     /// `InvalidHandle` where there is no key, `StorageFailure` or `DataCorrupt` where the file has it and can't be read, whose
-    /// slot is then empty, and else the use's first refusal. Ranked.
+    /// slot is then empty, and else the use's first refusal. Nothing is written to the disk, and no device is called. Ranked.
     pub fn look(
         &mut self,
         id: KeyId,
@@ -42,11 +44,13 @@ impl<D: Disk, A: Devices, C: Admission> Store<D, A, C> {
             (IsLent (use_refusal wanted) id.0 lease)) }
         ensures fits { IfOk result (λ lease. FitsUse wanted (bytes_of lease.buffer)) }
         ensures refused { IfErr result (λ refused. Reads D.Disk A.Devices C.Admission self.old self.new id.0 (mark_of refused.0)
-            (IsRefused (use_refusal wanted) id.0 refused.0)) }
+            (λ m. IsRefused (use_refusal wanted) id.0 refused.0 m × (is_opaque_key (map.get m.keys id.0) ≡ true → HasOpaque D.Disk A.Devices C.Admission self.old id.0))) }
         ensures spare { IfErr result (λ refused. IsClear refused.1) }
         ensures wipes { TakesOne self.old.slots.table.slots self.new.slots.table.slots }
         ensures unmoved { IfErr result (λ refused. refused.0 ≡ InvalidHandle → self.new.slots ≡ self.old.slots) }
         ensures emptied { IfErr result (λ refused. (mark_of refused.0 ≡ Plain → ⊥) → KeepsOrEmpties self.old.slots.table.slots self.new.slots.table.slots) }
+        ensures unwritten { WritesNothing D.Disk self.old self.new }
+        ensures untouched { IfErr result (λ refused. refused.0 ≡ InvalidHandle → CallsNothing self.old self.new) }
         ensures zeros { StaysZeros D.Disk A.Devices C.Admission self.old self.new }
         ensures later { NoFewerFaults D.faults A.faults self.old self.new }
         ensures tells { StillTells (D.contents self.old.file.cells.disk) (D.contents self.new.file.cells.disk) }

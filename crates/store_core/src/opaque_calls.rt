@@ -1,5 +1,5 @@
 //! Turns in which the secure element computes with its keys.
-ghost use Rattle.std.specs.Prelude.{◌≡◌, ◌<◌, ◌^◌, ◌+◌, true, length, IsErrOf};
+ghost use Rattle.std.specs.Prelude.{◌≡◌, ◌<◌, ◌^◌, ◌+◌, length, IsErrOf};
 ghost use Rattle.std.specs.FinMap as map;
 ghost use Rattle.psa_status.specs.Causes.{Rose};
 ghost use Rattle.store_model.specs.Prelude.{is_opaque_key};
@@ -7,7 +7,7 @@ ghost use Rattle.secure_element_calls.specs.Answers.{IsOfServed, IsRefusedBefore
 ghost use Rattle.secure_element_calls.specs.Calls.{AsksElement, model_call};
 ghost use Rattle.secure_element_calls.specs.declared.calls.NotComputed.TheVariants as uncomputed;
 ghost use Rattle.store_core.specs.Opaque.{IsElementAnswered, Makes};
-ghost use Rattle.store_core.specs.Represents.{HoldsOf, Stands};
+ghost use Rattle.store_core.specs.Represents.{HasOpaque, HoldsOf, Stands};
 ghost use Rattle.store_core.specs.Rising.{NoFewerFaults};
 
 use crate::Store;
@@ -41,8 +41,7 @@ impl<D: Disk, A: Devices, C: Admission> Store<D, A, C> {
     ) -> Result<usize, NotComputed>
         requires stands { Stands D.Disk A.Devices C.Admission self.old }
         requires few { self.old.ranked < 2 ^ 62 }
-        requires opaque { HoldsOf D.Disk A.Devices C.Admission self.old
-            (λ m. is_opaque_key (map.get m.keys id.0) ≡ true) }
+        requires opaque { HasOpaque D.Disk A.Devices C.Admission self.old id.0 }
         ensures made { Makes D.Disk A.Devices C.Admission self.old self.new
             (model_call call.now id.0 (length out.old)) (mark_computed result) (IsElementAnswered (A.keys self.old.devices) id.0 call.now out.old out.new result) }
         ensures served { IsOfServed result → AsksElement call.now → Rose (A.served self.old.devices) (A.served self.new.devices) }

@@ -4,7 +4,7 @@ ghost use Rattle.store_model.specs.Prelude.{Service, may_change_keys, Entry};
 ghost use Rattle.store_core.specs.declared.store.Store as store;
 ghost use Rattle.store_core.specs.Represents.{LeavesKeys};
 ghost use Rattle.store_core.specs.Zeros.{StaysZeros};
-ghost use Rattle.store_core.specs.Promises.{LeavesPrefixSinceOpening, LeavesPrefixSinceDone, LeavesFreeCellsZeros, LeavesKeysOrZeros, LeavesZerosOverTurns, LeavesZerosSince, HasReadersByLeases, KeepsLeasedKeys, WipesDestroyedKeys, LeavesKeysWhereRefused, GainsNothingByCopies};
+ghost use Rattle.store_core.specs.Promises.{LeavesPrefixSinceOpening, LeavesPrefixSinceDone, LeavesFreeCellsZeros, LeavesKeysOrZeros, LeavesZerosOverTurns, LeavesZerosSince, LeavesFreedCellsZeros, HasReadersByLeases, KeepsLeasedKeys, WipesDestroyedKeys, LeavesKeysWhereRefused, GainsNothingByCopies};
 
 use crate::Store;
 use admission::Admission;
@@ -31,10 +31,12 @@ impl<D: Disk, A: Devices, C: Admission> Store<D, A, C> {
     {}
 
     /// A cell that is free, as after a destruction that succeeded, stays all zeros over any turns that leave it free, until a
-    /// creation takes it: a crash since the first of these, whenever it comes, leaves zeros there.
+    /// creation takes it: a crash since the first of these, whenever it comes, leaves zeros there. So it is of the cells that the
+    /// history has freed.
     pub fn a_freed_cell_stays_zeros(&self)
         ensures within { LeavesZerosOverTurns D.Disk A.Devices C.Admission self.now }
         ensures zeros { LeavesZerosSince D.Disk A.Devices C.Admission self.now }
+        ensures history { LeavesFreedCellsZeros D.Disk A.Devices C.Admission self.now }
     {}
 
     /// A turn that leaves the file as it is leaves its free cells zeros.

@@ -8,7 +8,9 @@ ghost use Rattle.persistent_keys.specs.Calls.{KeepsFile};
 ghost use Rattle.slot_states.specs.declared.SlotState.TheVariants.{Full};
 ghost use Rattle.slot_table.specs.Slots.{slot_at, NoKey};
 ghost use Rattle.key_slots.specs.Wiping.{TakesOne};
-ghost use Rattle.store_core.specs.Represents.{Brings, Stands};
+ghost use Rattle.store_model.specs.Prelude.{is_opaque};
+ghost use Rattle.store_core.specs.Represents.{Brings, HasOpaque, Stands};
+ghost use Rattle.store_core.specs.Refusals.{WritesNothing};
 ghost use Rattle.store_core.specs.Uses.{HasPersistent, IsBrought, KeepsOrEmpties, status_of, unread_by};
 ghost use Rattle.store_core.specs.declared.reading.Unread.TheVariants as unread;
 
@@ -63,6 +65,7 @@ impl<D: Disk, A: Devices, C: Admission> Store<D, A, C> {
         ensures full { IfOk result (λ i. (slot_at self.new.slots.table.slots i).state ≡ Full) }
         ensures found { IfOk result (λ i. Brings D.Disk A.Devices C.Admission self.old self.new id.0
             (IsBrought id.0 (slot_at self.new.slots.table.slots i))) }
+        ensures element { IfOk result (λ i. is_opaque (slot_at self.new.slots.table.slots i).attributes ≡ true → HasOpaque D.Disk A.Devices C.Admission self.old id.0) }
         ensures missing { IsErrOf result unread.Missing → Brings D.Disk A.Devices C.Admission self.old self.new id.0
             (λ m. map.get m.keys id.0 ≡ None) }
         ensures unread { OnErr result ((IsErrOf result unread.Missing → ⊥) → Brings D.Disk A.Devices C.Admission self.old self.new id.0 (HasPersistent id.0)) }
@@ -72,8 +75,10 @@ impl<D: Disk, A: Devices, C: Admission> Store<D, A, C> {
         ensures later { D.faults self.old.file.cells.disk ≤ D.faults self.new.file.cells.disk }
         ensures wipes { TakesOne self.old.slots.table.slots self.new.slots.table.slots }
         ensures unmoved { IsErrOf result unread.Missing → self.new.slots ≡ self.old.slots }
+        ensures untouched { IsErrOf result unread.Missing → self.new.file ≡ self.old.file }
         ensures emptied { OnErr result (KeepsOrEmpties self.old.slots.table.slots self.new.slots.table.slots) }
         ensures directory { self.new.file.cells.states ≡ self.old.file.cells.states }
+        ensures unwritten { WritesNothing D.Disk self.old self.new }
         ensures keeps { KeepsFile D.Disk self.old.file self.new.file }
         ensures devices { self.new.devices ≡ self.old.devices }
         ensures rules { self.new.rules ≡ self.old.rules }
@@ -111,6 +116,7 @@ impl<D: Disk, A: Devices, C: Admission> Store<D, A, C> {
         ensures full { IfOk result (λ i. (slot_at self.new.slots.table.slots i).state ≡ Full) }
         ensures found { IfOk result (λ i. Brings D.Disk A.Devices C.Admission self.old self.new id.0
             (IsBrought id.0 (slot_at self.new.slots.table.slots i))) }
+        ensures element { IfOk result (λ i. is_opaque (slot_at self.new.slots.table.slots i).attributes ≡ true → HasOpaque D.Disk A.Devices C.Admission self.old id.0) }
         ensures missing { IsErrOf result unread.Missing → ⊥ }
         ensures unread { OnErr result ((IsErrOf result unread.Missing → ⊥) → Brings D.Disk A.Devices C.Admission self.old self.new id.0 (HasPersistent id.0)) }
         ensures disk { IsErrOf result unread.Disk → Rose (D.faults self.old.file.cells.disk) (D.faults self.new.file.cells.disk) }
@@ -120,6 +126,7 @@ impl<D: Disk, A: Devices, C: Admission> Store<D, A, C> {
         ensures wipes { TakesOne self.old.slots.table.slots self.new.slots.table.slots }
         ensures emptied { OnErr result (KeepsOrEmpties self.old.slots.table.slots self.new.slots.table.slots) }
         ensures directory { self.new.file.cells.states ≡ self.old.file.cells.states }
+        ensures unwritten { WritesNothing D.Disk self.old self.new }
         ensures keeps { KeepsFile D.Disk self.old.file self.new.file }
         ensures devices { self.new.devices ≡ self.old.devices }
         ensures rules { self.new.rules ≡ self.old.rules }

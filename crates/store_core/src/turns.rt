@@ -11,6 +11,7 @@ ghost use Rattle.key_slots.specs.Wiping.{EndsOnly, IsEmptyOrIdle, IsFillingOf, I
 ghost use Rattle.store_model.specs.Store as model;
 ghost use Rattle.store_model.specs.Prelude.{HasNumber, Plain};
 ghost use Rattle.store_core.specs.Represents.{Adds, AddsAs, Gives, HasOut, IsDirectory, Reads, Stands, Steps, Takes};
+ghost use Rattle.store_core.specs.Refusals.{CallsNothing, WritesNothing};
 ghost use Rattle.store_core.specs.Rising.{NoFewerFaults};
 ghost use Rattle.store_core.specs.Uses.{HasAttributes, IsRefused, KeepsOrEmpties, mark_of, there_rows};
 ghost use Rattle.store_core.specs.Zeros.{StaysZeros};
@@ -115,7 +116,7 @@ impl<D: Disk, A: Devices, C: Admission> Store<D, A, C> {
     }
 
     /// What is known of a key beside its bytes; `InvalidHandle` where there is no key, and `StorageFailure` or `DataCorrupt` where
-    /// the file has it and can't be read, whose slot is then empty. Ranked.
+    /// the file has it and can't be read, whose slot is then empty. Nothing is written to the disk. Ranked.
     pub fn attributes(&mut self, id: KeyId) -> Result<Attributes, Status>
         requires stands { Stands D.Disk A.Devices C.Admission self.old }
         requires size { D.size self.old.file.cells.disk ≡ 557120 }
@@ -130,6 +131,8 @@ impl<D: Disk, A: Devices, C: Admission> Store<D, A, C> {
         ensures wipes { TakesOne self.old.slots.table.slots self.new.slots.table.slots }
         ensures unmoved { IfErr result (λ status. status ≡ InvalidHandle → self.new.slots ≡ self.old.slots) }
         ensures emptied { OnErr result (KeepsOrEmpties self.old.slots.table.slots self.new.slots.table.slots) }
+        ensures unwritten { WritesNothing D.Disk self.old self.new }
+        ensures untouched { IfErr result (λ status. status ≡ InvalidHandle → CallsNothing self.old self.new) }
         ensures zeros { StaysZeros D.Disk A.Devices C.Admission self.old self.new }
         ensures later { NoFewerFaults D.faults A.faults self.old self.new }
         ensures tells { StillTells (D.contents self.old.file.cells.disk) (D.contents self.new.file.cells.disk) }

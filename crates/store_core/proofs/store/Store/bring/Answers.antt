@@ -1,5 +1,5 @@
-use Rattle.std.proofs.Common.{arith, None, ◌≡◌}
-use Rattle.store_core.proofs.Common.{IsBrought, slot_at}
+use Rattle.std.proofs.Common.{ap, arith, None, sym, ◌∙◌, ◌≡◌}
+use Rattle.store_core.proofs.Common.{IsBrought, is_opaque, is_opaque_key, slot_at}
 use Rattle.std.specs.FinMap as map
 use Rattle.store_core.proofs.Holding.{left_alone}
 use Rattle.store_core.proofs.Kept.{no_key}
@@ -15,6 +15,11 @@ returns-in-Some-clause-found g c = λ start opening h all e s is.
     brings g.D.Disk g.A.Devices g.C.Admission old old.file old.slots old.buffer start opening h all e
     (IsBrought c.args.id.0 (slot_at old.slots.table.slots c.in-Some.slot)) (left_alone g.D.Disk g.A.Devices g.C.Admission old.file) s.holds s.holds.slots
     (c.in-Some.ensures.key s.holds.model all s.holds.slots)
+
+pub returns-in-Some-clause-element : goal.returns-in-Some-clause-element
+returns-in-Some-clause-element g c = λ opaque start opening h all s.
+    let k = c.in-Some.ensures.key s.holds.model all s.holds.slots in
+    ap is_opaque_key k.1 ∙ (sym (ap is_opaque k.2.attributes) ∙ opaque)
 
 pub returns-in_default-find-clause-missing : goal.returns-in_default-find-clause-missing
 returns-in_default-find-clause-missing g c = λ is_missing start opening h all e s is.

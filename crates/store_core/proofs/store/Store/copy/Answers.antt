@@ -2,7 +2,7 @@ use Rattle.std.proofs.Common.{inl, Option, [], ap, arith, is_some, refl, subst, 
 use Rattle.store_core.proofs.Common.{Copy, Enters, Entry, IsEntry, IsOut, IsAboutToCreate, IsTold, IsUnkept, Key, OnStore, Plain, Store, buffer_of, bytes_of, course_of, durable_keys, last_counts, mark_unkept, new_id, ranked_on, recorded_copy, replay, slot_at}
 use Rattle.store_model.specs.Store as model
 use Rattle.store_core.proofs.Changing.{retold}
-use Rattle.store_core.proofs.Holding.{with_buffer}
+use Rattle.store_core.proofs.Holding.{has_model, with_buffer}
 use Rattle.store_core.proofs.Refusing.{asks_for}
 use Rattle.store_core.proofs.Finishing.{rebuffered, refuses, since_later}
 use Rattle.store_core.proofs.CopyTurn.{reads_source, keeps, refused_here, material_of, ready, making, decided_here, either, uncopied}
@@ -35,9 +35,7 @@ returns-in-Ok-made-clause-made g c = λ start opening h all less e s gains law b
     let entered = enters start opening h all less e (ready e caller source stated by call g.D.Disk g.A.Devices g.C.Admission mid start opening h all n slot key there has a decided buffer full) (since_later g.D.Disk g.A.Devices g.C.Admission old filled (last_counts opening.counts h) s.counts c.in-Ok.ensures.later c.in-Ok.ensures.devices) gains law (making e caller source stated by call g.D.Disk g.A.Devices g.C.Admission mid start opening h all n slot key there has a decided buffer full) turn in
     let tells = c.create-made.ensures.tells in (
       rebuffered g.D.Disk g.A.Devices g.C.Admission new c.wipe.new.self start opening (h ++ e ∷ []) less entered.0,
-      n.model,
-      (λ k. n.replayed (retold (g.D.Disk.contents mid.file.cells.disk) (g.D.Disk.contents c.create-made.new.self.file.cells.disk) start (h ++ e ∷ []) tells k)),
-      (a, sym (decided_here e caller source stated by call g.D.Disk g.A.Devices g.C.Admission mid start opening h all n slot key there has a decided buffer full), entered.1 ∙ ap (λ (m : model.Store). new_id m caller a) (with_buffer g.D.Disk g.A.Devices g.C.Admission (IsTold (g.D.Disk.contents mid.file.cells.disk) start (h ++ e ∷ [])) mid buffer start opening h all inl n).1),
+      has_model g.D.Disk g.A.Devices g.C.Admission n (retold (g.D.Disk.contents mid.file.cells.disk) (g.D.Disk.contents c.create-made.new.self.file.cells.disk) start (h ++ e ∷ []) tells) (a, sym (decided_here e caller source stated by call g.D.Disk g.A.Devices g.C.Admission mid start opening h all n slot key there has a decided buffer full), entered.1 ∙ ap (λ (m : model.Store). new_id m caller a) (with_buffer g.D.Disk g.A.Devices g.C.Admission (IsTold (g.D.Disk.contents mid.file.cells.disk) start (h ++ e ∷ [])) mid buffer start opening h all inl n).1),
     )
 
 pub returns-in-Err-made-clause-uncopied : goal.returns-in-Err-made-clause-uncopied
@@ -65,9 +63,7 @@ returns-in-Err-made-clause-uncopied g c = λ start opening h all less e s gains 
     let entered = enters start opening h all less e (ready e caller source stated by call g.D.Disk g.A.Devices g.C.Admission mid start opening h all n slot key there has a decided buffer full) (since_later g.D.Disk g.A.Devices g.C.Admission old filled (last_counts opening.counts h) s.counts c.in-Ok.ensures.later c.in-Ok.ensures.devices) gains law (making e caller source stated by call g.D.Disk g.A.Devices g.C.Admission mid start opening h all n slot key there has a decided buffer full) turn in
     let tells = c.create-made.ensures.tells in (
       rebuffered g.D.Disk g.A.Devices g.C.Admission new c.wipe.new.self start opening (h ++ e ∷ []) less entered.0,
-      n.model,
-      (λ k. n.replayed (retold (g.D.Disk.contents mid.file.cells.disk) (g.D.Disk.contents c.create-made.new.self.file.cells.disk) start (h ++ e ∷ []) tells k)),
-      (a, sym (decided_here e caller source stated by call g.D.Disk g.A.Devices g.C.Admission mid start opening h all n slot key there has a decided buffer full), entered.1),
+      has_model g.D.Disk g.A.Devices g.C.Admission n (retold (g.D.Disk.contents mid.file.cells.disk) (g.D.Disk.contents c.create-made.new.self.file.cells.disk) start (h ++ e ∷ []) tells) (a, sym (decided_here e caller source stated by call g.D.Disk g.A.Devices g.C.Admission mid start opening h all n slot key there has a decided buffer full), entered.1),
     )
 
 pub returns-in-Err-decide_copy-clause-uncopied : goal.returns-in-Err-decide_copy-clause-uncopied
@@ -85,9 +81,7 @@ returns-in-Err-decide_copy-clause-uncopied g c = λ start opening h all less e s
     let decided = ap (λ (o : Option Key). recorded_copy n.model caller o stated) there ∙ sym (c.in-Err-decide_copy.ensures.value start opening h all e n source brought.1.0 there brought.1.2) in (
       refuses g.D.Disk g.A.Devices g.C.Admission g.met.D.Disk.only_now mid c.give_up-in-Err-decide_copy.new.self start opening h all less e (keeps e caller source stated by call) status n (refused_here e caller source stated by call g.D.Disk g.A.Devices g.C.Admission mid start opening h all n status decided)
           (c.give_up-in-Err-decide_copy.ensures.takes n.model all less n.slots gains) law is,
-      n.model,
-      n.replayed,
-      sym decided,
+      has_model g.D.Disk g.A.Devices g.C.Admission n (λ k. k) (sym decided),
     )
 
 pub returns-in-Err-clause-uncopied : goal.returns-in-Err-clause-uncopied

@@ -41,6 +41,7 @@ returns-in-Ok-clause-made g c = λ start opening h all less e r since gains law 
             without = placed.1;
             placed = placed.2;
             sized = ensures.states;
+            free = ensures.free;
             tells = ensures.tells;
             leads = λ keys keys' doubt stands put. ensures.made keys keys' doubt stands (subst (λ (b : List ℕ). IsPut keys keys' a.id.0 (Some (stored (old.found + old.ranked) a b))) (sym c.as_slice.ensures.list) put);
           })
@@ -65,6 +66,7 @@ returns-clause-unkept g c = rw c.in-Err-Disk.closed_first-is (λ start opening h
           (record {
             settled = ensures.unplaced;
             sized = ensures.states;
+            free = ensures.free;
             tells = ensures.tells;
             leads = λ keys doubt stands. subst (λ (b : List ℕ). Leads g.D.Disk old.file.cells.disk c.make.new.self.cells.disk old.file.cells.states.items c.make.new.self.cells.states.items keys doubt keys (doubt_unmade (Disk closed) a b doubt)) c.as_slice.ensures.list
                 (subst (λ (f : MakeFault). Leads g.D.Disk old.file.cells.disk c.make.new.self.cells.disk old.file.cells.states.items c.make.new.self.cells.states.items keys doubt keys (doubt_unmade f a c.as_slice.result.now doubt)) c.in-Err-Disk.field-0-is (ensures.failed keys doubt stands));

@@ -1,6 +1,5 @@
 use Rattle.std.proofs.Common.{Option, inl, refl, subst, sym}
-use Rattle.store_core.proofs.Common.{IsAmong, RecordsStated}
-use Rattle.std.specs.Option.{option_map}
+use Rattle.store_core.proofs.Common.{IsAmong, option_map, RecordsStated}
 use Rattle.store_core.proofs.store.Store.decide.Goals as goal
 
 pub is_alive-requires : goal.is_alive-requires

@@ -1,6 +1,5 @@
 use Rattle.std.proofs.Common.{Err, None, Ok, Option, [], ap, length, refl, subst, sym, ◌++◌, ◌∙◌, ◌∷◌, ◌≡◌}
-use Rattle.store_core.proofs.Common.{Agrees, Buffer, IsEntry, IsAboutToCreate, Plain, RecordsStated, Store, bytes-buffer_of, bytes_of, course_of, durable_keys, mark_unkept, new_id, ranked_on}
-use Rattle.std.specs.Option.{option_map}
+use Rattle.store_core.proofs.Common.{Agrees, Buffer, bytes-buffer_of, bytes_of, course_of, durable_keys, IsAboutToCreate, IsEntry, mark_unkept, new_id, option_map, Plain, ranked_on, RecordsStated, Store}
 use Rattle.slot_table.specs.Lent.{Reading}
 use Rattle.store_model.specs.Store as model
 use Rattle.store_core.proofs.Refusing.{asks_for}

@@ -1,14 +1,12 @@
 use Rattle.std.proofs.Common.{Bool, Err, IsErrOf, List, Some, [], false, is_some, ap, arith, inl, refl, subst, sym, true, ℕ, ◌∙◌, ◌∷◌, ◌≡◌}
-use Rattle.store_core.proofs.Common.{IsKeyOf, Pairs, always_found, cell_state, course_of, creation_of_state, durable_keys, is_persistent_key, slot_at, stored}
+use Rattle.store_core.proofs.Common.{always_found, cell_state, course_of, creation_of_state, durable_keys, false≢true, is_opaque, is_persistent_key, IsKeyOf, Pairs, slot_at, stored, Unread, unread_by}
 use Rattle.std.specs.FinMap as map
 use Rattle.key_slots.proofs.Pairs.{was_out}
-use Rattle.store_core.proofs.Kept.{key_of_cell, is_persistent}
+use Rattle.store_core.proofs.Kept.{key_of_cell, is_persistent, local}
 use Rattle.store_core.proofs.Loading.{IsLoaded, brings, loads, filled_has, stays_put, gains_one}
 use Rattle.store_core.proofs.Ending.{load_ends, load_empties}
 use Rattle.key_cells.specs.declared.cells.CellFault.{CellFault}
 use Rattle.key_cells.specs.declared.cells.CellFault.TheVariants as file
-use Rattle.store_core.specs.Uses.{unread_by}
-use Rattle.store_core.specs.declared.reading.Unread.{Unread}
 use Rattle.store_core.specs.declared.reading.Unread.TheVariants.{Missing, Disk, Corrupt}
 use Rattle.store_core.proofs.store.Store.load.Goals as goal
 
@@ -87,6 +85,9 @@ returns-in-Ok-clause-found g c = λ start opening h all e s is.
       ),
     )
 
+pub returns-in-Ok-clause-element : goal.returns-in-Ok-clause-element
+returns-in-Ok-clause-element g c = λ opaque. absurd (false≢true (sym (ap (λ s. is_opaque s.attributes) c.fill-slot.ensures.filled ∙ local c.in-Ok.attributes c.as_slice.result.now (subst (IsKeyOf c.in-Ok.attributes) (sym c.as_slice.ensures.list) c.in-Ok.ensures.key)) ∙ opaque))
+
 pub returns-in-Ok-clause-wipes : goal.returns-in-Ok-clause-wipes
 returns-in-Ok-clause-wipes g c =
     let taken = c.reserve-filling.ensures in
@@ -110,6 +111,7 @@ returns-in-Err g c =
       within = tt;
       full = tt;
       found = tt;
+      element = tt;
       missing = λ e. never_missing fault (why Missing e);
       unread = λ failed start opening h all e s is.
           let more : List Pairs = ((slot, 0) ∷ []) ∷ all in
@@ -130,6 +132,7 @@ returns-in-Err g c =
       wipes = load_ends before c.reserve-filling.new.self.table.slots c.give_up.new.self.table.slots slot taken.taken taken.wipes gone.wipes;
       emptied = load_empties before c.reserve-filling.new.self.table.slots c.give_up.new.self.table.slots slot taken.wipes gone.wipes gone.emptied;
       directory = loaded.states;
+      unwritten = record { disk = loaded.calm; directory = loaded.states; devices = refl {a = old.devices} };
       keeps = loaded.keeps;
       devices = refl {a = old.devices};
       rules = refl {a = old.rules};

@@ -1,8 +1,10 @@
-use Rattle.std.proofs.Common.{IsTrue, Some, ap, arith, is_some, length, rules, refl, subst, sym, ℕ, ◌+◌, ◌∙◌}
-use Rattle.store_core.proofs.Common.{Attributes, FitsUse, Gains, IsLent, bytes_of, missing, permits_size, unless-err, unless-ok, use_refusal}
+use Rattle.std.proofs.Common.{IsTrue, Some, ap, arith, is_some, length, rules, refl, subst, sym, true, ℕ, ◌+◌, ◌∙◌, ◌≡◌}
+use Rattle.std.specs.FinMap as map
+use Rattle.store_core.proofs.Common.{Attributes, bytes_of, FitsUse, Gains, HasOpaque, is_opaque, is_opaque_key, IsLent, missing, permits_size, unless-err, unless-ok, use_refusal}
 use Rattle.slot_table.specs.Lent as lent
 use Rattle.store_core.proofs.Lending.{has_bytes, sized}
 use Rattle.store_core.proofs.Refusing.{asks_for, ends_found, ends_refused, ends_unread, few_readers, use_plain}
+use Rattle.store_core.proofs.ByElement.{unread_local}
 use Rattle.store_core.proofs.Missing.{is_missing_why, is_other}
 use Rattle.store_core.proofs.Ending.{look_ends}
 use Rattle.store_core.proofs.store.Store.look.Goals as goal
@@ -40,6 +42,8 @@ returns-in-Ok-check g c = record {
   wipes = look_ends c.args.self.now.slots.table.slots c.bring-brought.new.self.slots.table.slots c.lend.new.self.table.slots c.bring-brought.ensures.wipes c.lend.ensures.wipes;
   unmoved = tt;
   emptied = tt;
+  unwritten = record { disk = c.bring-brought.ensures.unwritten.disk; directory = c.bring-brought.ensures.directory; devices = c.bring-brought.ensures.devices };
+  untouched = tt;
   zeros = search rules;
   later = record { disk = c.bring-brought.ensures.later; devices = (let e = ap g.A.Devices.faults c.bring-brought.ensures.devices in omega arith) };
   tells = ap is_some c.bring-brought.ensures.same;
@@ -59,7 +63,8 @@ returns-in-Err-check g c = record {
       let rows = use_refusal c.args.wanted in
       let refused = unless-err _ _ _ (sym (c.in-Err-check.ensures.refusal k.0 (sym k.2.attributes ∙ sym c.attributes.ensures))) in
       ends_refused g.D.Disk g.A.Devices g.C.Admission g.met.D.Disk.only_now c.args.self.now c.bring-brought.new.self start opening h all e c.args.id.0
-      rows _ (use_plain c.args.wanted (Some k.0) _ refused) is n.0 (ap rows k.1 ∙ refused) turn;
+      rows _ (λ m. is_opaque_key (map.get m.keys c.args.id.0) ≡ true → HasOpaque g.D.Disk g.A.Devices g.C.Admission c.args.self.now c.args.id.0) (use_plain c.args.wanted (Some k.0) _ refused) is n.0 (ap rows k.1 ∙ refused)
+      (λ opaque. c.in-Ok.ensures.element (ap is_opaque k.2.attributes ∙ (sym (ap is_opaque_key k.1) ∙ opaque))) turn;
   spare = c.requires.spare;
   wipes = c.bring-brought.ensures.wipes;
   unmoved = λ missing.
@@ -70,6 +75,11 @@ returns-in-Err-check g c = record {
       let at = c.requires.stands in
       let k = (c.in-Ok.ensures.found at.0 at.1 at.2 at.3 (asks_for c.args.id.0) at.4 (λ t. refl)).1 in
       absurd (fault (use_plain c.args.wanted (Some k.0) _ (unless-err _ _ _ (sym (c.in-Err-check.ensures.refusal k.0 (sym k.2.attributes ∙ sym c.attributes.ensures))))).0);
+  unwritten = record { disk = c.bring-brought.ensures.unwritten.disk; directory = c.bring-brought.ensures.directory; devices = c.bring-brought.ensures.devices };
+  untouched = λ missing.
+      let at = c.requires.stands in
+      let k = (c.in-Ok.ensures.found at.0 at.1 at.2 at.3 (asks_for c.args.id.0) at.4 (λ t. refl)).1 in
+      absurd (is_other c.args.wanted k.0 _ (unless-err _ _ _ (sym (c.in-Err-check.ensures.refusal k.0 (sym k.2.attributes ∙ sym c.attributes.ensures)))) missing);
   zeros = search rules;
   later = record { disk = c.bring-brought.ensures.later; devices = (let e = ap g.A.Devices.faults c.bring-brought.ensures.devices in omega arith) };
   tells = ap is_some c.bring-brought.ensures.same;
@@ -85,12 +95,15 @@ returns-in-Err g c = record {
   fits = tt;
   refused = rw c.status.ensures (λ start opening h all e s is turn.
       let b = c.in-Err.ensures in
-      ends_unread g.D.Disk g.A.Devices g.C.Admission g.met.D.Disk.only_now c.args.self.now c.bring-brought.new.self start opening h all e c.args.id.0
-      (use_refusal c.args.wanted) c.in-Err.unread (missing c.args.wanted) b.same s is (λ why. b.missing why start opening h all e s is.reads) (λ why. b.unread why start opening h all e s is.reads) b.disk b.corrupt turn);
+      let n = ends_unread g.D.Disk g.A.Devices g.C.Admission g.met.D.Disk.only_now c.args.self.now c.bring-brought.new.self start opening h all e c.args.id.0
+      (use_refusal c.args.wanted) c.in-Err.unread (missing c.args.wanted) b.same s is (λ why. b.missing why start opening h all e s is.reads) (λ why. b.unread why start opening h all e s is.reads) b.disk b.corrupt turn in
+      (n.0, (n.1, λ opaque. absurd (unread_local c.args.wanted c.args.id.0 n.0.holds.model n.0.holds.sound c.in-Err.unread n.1 opaque))));
   spare = c.requires.spare;
   wipes = c.bring-brought.ensures.wipes;
   unmoved = λ missing. c.in-Err.ensures.unmoved (is_missing_why c.in-Err.unread (sym c.status.ensures ∙ missing));
   emptied = λ fault. c.in-Err.ensures.emptied;
+  unwritten = record { disk = c.bring-brought.ensures.unwritten.disk; directory = c.bring-brought.ensures.directory; devices = c.bring-brought.ensures.devices };
+  untouched = λ missing. record { file = c.in-Err.ensures.untouched (is_missing_why c.in-Err.unread (sym c.status.ensures ∙ missing)); devices = c.bring-brought.ensures.devices };
   zeros = search rules;
   later = record { disk = c.bring-brought.ensures.later; devices = (let e = ap g.A.Devices.faults c.bring-brought.ensures.devices in omega arith) };
   tells = ap is_some c.bring-brought.ensures.same;

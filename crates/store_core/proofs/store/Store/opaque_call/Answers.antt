@@ -41,13 +41,13 @@ returns-in-Ok-clause-made g c = λ start opening h all e s is turn.
     (c.check_use.ensures.refusal k.0 (sym k.2.attributes ∙ sym c.attributes-attributes.ensures)) in
     let none = (unless-ok (first_row (key_rows call (Some k.0))) tt c.in-Ok.field-0 (sym rows ∙ c.in-Ok.is)).0 in
     let there = subst (λ n. HoldsHandle held n (λ h. h ≡ held_of k.0)) (sym (c.number.ensures ∙ k.2.number)) (s.holds.device.there id k.0 k.1 (sym (ap is_opaque_key k.1) ∙ opaque)) in
-    let decided = answered held id call c.args.out.now c.compute.new.out c.compute.result m k.0 c.number.result k.1 there none c.compute.ensures.computed in
+    let decided = answered held id call c.args.out.now c.compute.new.out c.compute.result m k.0 c.number.result opaque k.1 there none c.compute.ensures.computed in
     ends_computed g.D.Disk g.A.Devices g.C.Admission g.met.D.Disk.only_now old c.compute.new.devices start opening h all e
     (model_call call id (length c.args.out.now)) (mark_computed c.compute.result) (IsElementAnswered held id call c.args.out.now c.compute.new.out c.compute.result) s is (keeps_keys call id (length c.args.out.now))
     c.compute.ensures.keys c.compute.ensures.locations
     (fault_of c.compute.result _ (last_counts opening.counts h) e (λ failed.
     subst (Rose (last_counts opening.counts h).device_faults) (sym turn.device_faults) (subst (λ n. Rose n (g.A.Devices.faults c.compute.new.devices)) (sym (ap (λ (x : FaultCounts). x.device_faults) s.counts)) (c.compute.ensures.failed failed))))
-    (λ service same. mark_may held id call c.args.out.now c.compute.new.out c.compute.result m decided opaque service e.caller same) (answered held id call c.args.out.now c.compute.new.out c.compute.result (counted m) k.0 c.number.result k.1 there none c.compute.ensures.computed) turn
+    (λ service same. mark_may held id call c.args.out.now c.compute.new.out c.compute.result m decided opaque service e.caller same) (answered held id call c.args.out.now c.compute.new.out c.compute.result (counted m) k.0 c.number.result opaque k.1 there none c.compute.ensures.computed) turn
 
 pub returns-in-Err-clause-made : goal.returns-in-Err-clause-made
 returns-in-Err-clause-made g c = λ start opening h all e s is turn.
@@ -62,4 +62,4 @@ returns-in-Err-clause-made g c = λ start opening h all e s is turn.
     (c.check_use.ensures.refusal k.0 (sym k.2.attributes ∙ sym c.attributes-attributes.ensures)) in
     ends_computed g.D.Disk g.A.Devices g.C.Admission g.met.D.Disk.only_now old old.devices start opening h all e
     (model_call call id (length out)) Plain (IsElementAnswered held id call out out (Err (Refused c.in-Err.status))) s is (keeps_keys call id (length out)) refl refl tt (λ service same. tt)
-    (unused held id call out (counted m) k.0 c.in-Err.status k.1 (unless-err (first_row (key_rows call (Some k.0))) tt c.in-Err.status (sym rows ∙ c.in-Err.is))) turn
+    (unused held id call out (counted m) k.0 c.in-Err.status (c.requires.opaque start opening h all s) k.1 (unless-err (first_row (key_rows call (Some k.0))) tt c.in-Err.status (sym rows ∙ c.in-Err.is))) turn

@@ -1,27 +1,7 @@
-use Rattle.std.proofs.Common.{IfSome, List, None, Option, Some, ap, arith, count_by, inl, refl, subst, sym, true, ℕ, ◌∙◌, ◌≤◌}
-use Rattle.store_core.proofs.Common.{IsClear, IsOpened, IsOpeningRefused, KeyFile, KeySlots, Lacks, Memory, is_open}
-use Rattle.disk_face.specs.declared.Disk as Disk
-use Rattle.store_core.proofs.Started.{IsNew, starts, exactly, stands}
+use Rattle.std.proofs.Common.{ap, count_by, refl, subst, sym, ◌∙◌, ◌≤◌}
+use Rattle.store_core.proofs.Common.{IsClear, IsOpened, KeyFile, KeySlots, Lacks, is_open}
+use Rattle.store_core.proofs.Started.{IsNew, starts, exactly, stands, without_memory}
 use Rattle.store_core.proofs.store.Store.open.Goals as goal
-
--- a disk that no call was made to
-uncalled : {D : Type 0} (disks : Disk.Ghosts D) (disk : D) → IsOpeningRefused disks disk disk Memory
-uncalled disks disk = record {
-  caused = always (disks.contents disk) (λ image. tt);
-  tells = refl;
-  later = omega arith;
-  rose = λ none. absurd none;
-  same = λ none. absurd none;
-  unwritten = λ none. absurd none;
-  unwritten_within = λ none. absurd none;
-  durable = λ none. absurd none;
-  spares = always (disks.contents disk) (λ image store. record { later = omega arith; each = λ t other le left. inl left });
-  left = always (disks.contents disk) (λ image store. inl (λ other left. left));
-}
-  where
-    always : (o : Option (List ℕ)) {P : List ℕ → Type 0} → ((image : List ℕ) → P image) → IfSome o P
-    always None f = tt
-    always (Some image) f = f image
 
 is_new : (g : _) (c : goal.After-with_file g) →
     IsNew g.D.Disk g.A.Devices g.C.Admission c.args.disk c.with_file.result
@@ -50,7 +30,7 @@ pub returns-in-Ok-open-clause-starts : goal.returns-in-Ok-open-clause-starts
 returns-in-Ok-open-clause-starts g c =
     let store = c.with_file.result in
     starts g.D.Disk g.A.Devices g.C.Admission c.args.disk store (is_new g c) (g.met.D.Disk.read_is_image store.file.cells.disk)
-    (record { seed = store.opened.seed.value; labels = g.C.Admission.labels store.rules; locations = g.A.Devices.locations store.devices; has_file = true }) refl refl refl refl
+    (record { seed = store.opened.seed.value; labels = g.C.Admission.labels store.rules; locations = g.A.Devices.locations store.devices }) refl refl refl
 
 pub returns-in-Ok-open-clause-keys : goal.returns-in-Ok-open-clause-keys
 returns-in-Ok-open-clause-keys g c =
@@ -86,4 +66,4 @@ pub returns-in-Err-open-clause-refused : goal.returns-in-Err-open-clause-refused
 returns-in-Err-open-clause-refused g c = c.in-Err-open.ensures.refused
 
 pub returns-in-Err-clause-refused : goal.returns-in-Err-clause-refused
-returns-in-Err-clause-refused g c = uncalled g.D.Disk c.args.disk
+returns-in-Err-clause-refused g c = without_memory g.D.Disk g.A.Devices g.C.Admission c.args.disk

@@ -1,5 +1,7 @@
 use Rattle.std.proofs.Common.{None, arith, refl, subst, sym, ◌<◌}
-use Rattle.store_core.proofs.Common.{Free, Leads, Plain, Rose, Storage, Writing}
+use Rattle.store_core.proofs.Common.{Free, Leads, Plain, Rose, Storage, Writing, cell_state}
+use Rattle.key_cells.proofs.Counts.{has_id_open}
+use Rattle.key_cells.proofs.Free.{open_not_free}
 use Rattle.std.specs.FinMap as map
 use Rattle.store_core.proofs.Kept.{key_of_cell, is_persistent}
 use Rattle.store_core.proofs.Destroyed.{fewer_kept, rows_there, still_doubted, undestroyed_doubt}
@@ -23,13 +25,29 @@ overflow_sub-self g c =
 pub returns-in-Ok-clause-destroyed : goal.returns-in-Ok-clause-destroyed
 returns-in-Ok-clause-destroyed g c = λ start opening h all e s call is.
     let m = s.holds.model in
+    let cells = c.args.self.now.file.cells.states.items in
     let ensures = c.in-Ok.ensures in
     let sized = s.holds.directory.sized in
     let there = c.requires.there.within in
     let within : c.args.cell < 512 = omega arith in
     let key = key_of_cell c.args.self.now.file.cells.states.items m c.args.id.0 c.args.cell s.holds.directory within c.requires.there.here in (
       destroys_kept g.D.Disk g.A.Devices g.C.Admission g.met.D.Disk.only_now c.args.self.now start opening h all e c.args.id.0 call c.destroy-closed.new.self c.destroy.new.self Plain c.args.cell s
-          (record { within = within; key = c.requires.there.here; sized = ensures.states; missing = ensures.missing; tells = ensures.tells; leads = λ keys keys' doubt own stands there put. ensures.destroyed keys keys' doubt stands put; settles = λ own doubt none. set_sure c.args.self.now.file.cells.states.items c.destroy-closed.new.self.cells.states.items c.args.cell Free refl ensures.gone })
+          (record {
+            within = within;
+            key = c.requires.there.here;
+            sized = ensures.states;
+            missing = ensures.missing;
+            tells = ensures.tells;
+            leads = λ keys keys' doubt own stands there put. ensures.destroyed keys keys' doubt stands put;
+            frees = (
+              ensures.free,
+              c.args.cell,
+              within,
+              open_not_free (cell_state cells c.args.cell) (has_id_open c.args.id.0 (cell_state cells c.args.cell) c.requires.there.here),
+              freed cells c.destroy-closed.new.self.cells.states.items m c.args.id.0 c.args.cell s.holds.directory within c.requires.there.here ensures.gone c.args.cell within c.requires.there.here,
+            );
+            settles = λ own doubt none. set_sure c.args.self.now.file.cells.states.items c.destroy-closed.new.self.cells.states.items c.args.cell Free refl ensures.gone;
+          })
           c.destroy.ensures.forgets tt (λ service persistent. tt) is,
       rows_there c.args.id.0 (map.get m.keys c.args.id.0) key.0 key.1,
     )
@@ -54,6 +72,7 @@ returns-in-Err-clause-failed g c = λ start opening h all e s call is.
             tells = ensures.tells;
             leads = λ keys keys' doubt own stands there put. subst (Leads g.D.Disk old.disk new.disk old.states.items new.states.items keys doubt keys') (undestroyed_doubt closed own doubt)
                 (ensures.failed keys keys' doubt own stands there put);
+            frees = ensures.free;
             settles = λ own doubt none. absurd (still_doubted closed own doubt none);
           })
           c.destroy.ensures.forgets (subst (Rose (g.D.Disk.faults old.disk)) (sym is.disk_faults) ensures.cause.failed) (λ service persistent. persistent) is,

@@ -1,6 +1,5 @@
 use Rattle.std.proofs.Common.{ap, arith, subst, sym, ℕ, ◌||◌, ◌∙◌}
-use Rattle.store_core.proofs.Common.{Hardware, HoldsHandle, Plain, Rose, asks_device, has_element, is_opaque, is_opaque_key, slot_at}
-use Rattle.std.specs.Prelude.{⊤}
+use Rattle.store_core.proofs.Common.{asks_device, Hardware, has_element, HoldsHandle, is_opaque, is_opaque_key, Plain, Rose, slot_at, ⊤}
 use Rattle.std.specs.FinMap as map
 use Rattle.store_core.proofs.Destroyed.{high_here, of_creator, fewer_live, element_there, holds_some, rows_there}
 use Rattle.store_core.proofs.DestroyTurn.{destroys_volatile, slot_key}
