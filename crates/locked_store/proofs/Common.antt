@@ -11,12 +11,16 @@ pub use Rattle.locked_store.specs.Worlds.{World, world_of}
 pub use Rattle.secret_bytes.specs.Buffer.{IsClear, bytes_of}
 pub use Rattle.secure_element_calls.specs.Answers.{mark_computed}
 pub use Rattle.service_calls.specs.Meanings.{model_request}
-pub use Rattle.std.proofs.lemmas.Result.{IfErr-at_err, IfOk-at_ok, on_err_weaker, on_ok_weaker}
+pub use Rattle.std.proofs.lemmas.Result.{IfErr-at_err, IfErr-weaker, IfOk-at_ok, IfOk-weaker, on_err_weaker, on_ok_weaker}
 pub use Rattle.std.specs.List.{AllByRecursion}
 pub use Rattle.store_core.proofs.Histories.{quiet_leaves, refused_leaves, told_before}
-pub use Rattle.store_core.specs.Prelude.{Adds, AddsAs, AreRising, Copies, Creates, Destroys, FindsKeysOf, Gives, HasAttributes, HasKeyOrZeros, HasOut, HasOutBeside, HoldsOf, IsAmong, IsElementAnswered, IsEntry, IsLent, IsMade, IsReading, IsRefused, IsStart, IsTold, IsUncopied, IsUndestroyed, IsUnmade, LeavesKeys, Makes, MayDestroy, NoFewerFaults, Opening, Reads, ReadsAndGives, RecordsCopy, RecordsStated, Stands, StandsFor, Steps, Takes, course_of, durable_keys, mark_of, mark_uncopied, mark_undestroyed, mark_unmade, opening_of, there_rows}
+pub use Rattle.store_core.specs.Prelude.{Adds, AddsAs, AreRising, Copies, course_of, Creates, Destroys, durable_keys, FindsKeysOf, Gives, HasAttributes, HasKeyOrIsClosed, HasKeyOrZeros, HasModel, HasOpaque, HasOut, HasOutBeside, IsAmong, IsElementAnswered, IsEntry, IsLent, IsMade, IsReading, IsRefused, IsStart, IsTold, IsUncopied, IsUndestroyed, IsUnmade, LeavesKeys, Makes, mark_of, mark_uncopied, mark_undestroyed, mark_unmade, MayDestroy, NoFewerFaults, Opening, opening_of, Reads, ReadsAndGives, RecordsCopy, RecordsStated, Stands, StandsFor, Steps, Takes, there_rows}
 pub use Rattle.store_core.specs.declared.store.Opened.{Opened}
 pub use Rattle.store_core.specs.declared.store.Store.{Store}
 pub use Rattle.store_model.specs.Prelude.{Call, Copy, Destroy, Entry, FaultCounts, FaultMark, HasNumber, IsCaller, IsCaused, IsSoundStore, OnStore, Plain, Request, Service, created_unless, destroy_rows, id_read, is_opaque_key, may_change_keys, plain_step, replay}
 pub use Rattle.turn_history.specs.Prelude.{OwnCalls, StartsWith, after_turn, calls_by, entries_of, option_list, held_by, with_held_by}
 pub use Rattle.turn_history.specs.declared.pass.View.{View}
+pub use Rattle.psa_status.specs.declared.Status.TheVariants.{InvalidHandle, Success}
+pub use Rattle.std.specs.Prelude.{IfErr, IfOk}
+pub use Rattle.store_core.proofs.Holding.{has_model}
+pub use Rattle.turn_history.proofs.Lists.{begins_longer, entries-append, entries_fewer, entries_one}

@@ -10,6 +10,7 @@ use Rattle.store_model.specs.Prelude.{Store}
 pub as_known : (held other : Option HeldKeys) (id : ℕ) (call : ElementCall) (old new : List ℕ) (result : Result ℕ NotComputed) (m : Store) → is_some held ≡ is_some other →
     IsElementAnswered held id call old new result m → IsElementAnswered other id call old new result m
 as_known held other id call old new result m same a = record {
+  opaque = a.opaque;
   decided = a.decided;
   reply = λ tells. a.reply (same ∙ tells);
   buffer = λ tells. a.buffer (same ∙ tells);

@@ -1,7 +1,6 @@
 -- A pass in its turn and after it.
-use Rattle.std.proofs.Common.{List, None, Option, Some, [], ap, append-nil, arith, length, refl, subst, sym, ℕ, ◌++◌, ◌+◌, ◌∙◌, ◌∷◌, ◌≡◌, ◌≤◌}
-use Rattle.locked_store.proofs.Common.{AllByRecursion, Entry, GoesOn, IsCaller, OwnCalls, Pairs, SpendsOneTurn, StartsWith, View, after_turn, caller_of, calls_by, entries_of, option_list}
-use Rattle.turn_history.proofs.Lists.{entries-append, entries_one, begins_longer}
+use Rattle.std.proofs.Common.{List, Option, [], ap, arith, subst, sym, ℕ, ◌++◌, ◌+◌, ◌∙◌, ◌∷◌, ◌≡◌, ◌≤◌}
+use Rattle.locked_store.proofs.Common.{after_turn, AllByRecursion, begins_longer, caller_of, calls_by, entries-append, entries_of, entries_one, Entry, GoesOn, IsCaller, option_list, OwnCalls, Pairs, SpendsOneTurn, StartsWith, View}
 
 -- the callers of a history with one more entry, and without it
 pub signed_push : (h : List Entry) (e : Entry) → AllByRecursion IsCaller h → IsCaller e → AllByRecursion IsCaller (h ++ e ∷ [])

@@ -1,10 +1,14 @@
 -- The store before a turn and after it, and what was decided between.
 use Rattle.std.proofs.Common.{List, None, Option, Some, [], ap, append-nil, arith, false, inl, inr, is_some, length, refl, subst, sym, true, ℕ, ⊎_elim, ◌++◌, ◌∙◌, ◌∷◌, ◌≡◌, ◌≤◌}
-use Rattle.locked_store.proofs.Common.{AllByRecursion, AreHoldings, AreRising, DecidesAfter, DecidesBefore, Entry, FaultMark, HoldsHistory, IsAt, IsBegun, IsCaller, IsCaused, IsClear, IsEntered, IsEntry, IsHolding, IsLater, IsLegal, IsReading, IsStartOf, IsTold, Opened, Opening, OwnCalls, Pairs, ReadsKey, Request, Seat, Service, StandsFor, Store, ToldBy, View, World, after_change, after_turn, caller_of, entries_of, id_read, may_change_keys, opening_of, option_list, replay, told_before, turn_entry, with_held_by}
+use Rattle.locked_store.proofs.Common.{after_change, after_turn, AllByRecursion, AreHoldings, AreRising, caller_of, DecidesAfter, entries_of, Entry, FaultMark, has_model, HasModel, HoldsHistory, id_read, IsAt, IsBegun, IsCaller, IsCaused, IsClear, IsEntered, IsEntry, IsHolding, IsLater, IsLegal, IsReading, IsStartOf, IsTold, may_change_keys, Opened, Opening, opening_of, option_list, OwnCalls, Pairs, ReadsKey, replay, Request, Seat, Service, StandsFor, Store, ToldBy, turn_entry, View, with_held_by, World}
 use Rattle.store_model.specs.Store as model
 use Rattle.locked_store.specs.declared.changes.Change.{Change}
 use Rattle.locked_store.proofs.Owning.{holding_of}
 use Rattle.locked_store.proofs.Passing.{after_one, goes_on, signed_front, with_entry}
+
+-- a model of which Q holds where P does, known where less is
+pub model_as : {K K' : Type 0} {start : Service} {h : List Entry} {P Q : model.Store → Type 0} → (K' → K) → ((m : model.Store) → P m → Q m) → HasModel K start h P → HasModel K' start h Q
+model_as known more m = record { model = m.model; replayed = λ k. m.replayed (known k); sound = m.sound; settings = m.settings; calls = m.calls; holds = more m.model m.holds }
 
 module _ {D A C : Type 0} (w : World D A C) where
   abbrev opened : Opened D A C
@@ -75,23 +79,12 @@ module _ {D A C : Type 0} (w : World D A C) where
       IsEntry w.disk w.devices w.rules store mark (turn_entry w.disk w.devices store n call mark)
   is_entry store n call mark first last = record { from_first = first; to_last = last; marked = refl; done = refl; disk_faults = refl; device_faults = refl }
 
-  -- what holds of the store's model after an entry holds of the one-thread store's
+  -- what holds of the store's model after an entry was decided then
   pub decides_after : (new : Store D A C) (P : model.Store → Type 0) (h : List Entry) (e : Entry) (all : List Pairs) → new.opened ≡ opened →
       is_some (w.disk.contents new.file.cells.disk) ≡ is_some (w.disk.contents new.opened.file.value.cells.disk) →
       ((start : Service) → From opened start → (n : For new start (As opened) (h ++ e ∷ []) all) × P n.holds.model) → DecidesAfter w P h e
   decides_after new P h e all same tells next start is = let n = next start is in
-      (n.0.holds.model, λ known. n.0.holds.replayed (told_now new start (h ++ e ∷ []) tells (subst (λ o. ToldBy (At o) start (h ++ e ∷ [])) (sym same) known)), n.1)
-
-  -- and what holds of it before
-  pub decides_before : (old : Store D A C) (P : model.Store → Type 0) (h : List Entry) (e : Entry) (all : List Pairs) → old.opened ≡ opened →
-      is_some (w.disk.contents old.file.cells.disk) ≡ is_some (w.disk.contents old.opened.file.value.cells.disk) →
-      ((start : Service) → From opened start → (s : For old start (As opened) h all) × P s.holds.model) → DecidesBefore w P h e
-  decides_before old P h e all same tells next start is = let s = next start is in (
-    s.0.holds.model,
-    λ known. s.0.holds.replayed (told_now old start h tells (subst (λ o. ToldBy (At o) start h) (sym same)
-        (told_before (w.disk.contents opened.file.value.cells.disk) start h e known))),
-    s.1,
-  )
+      has_model w.disk w.devices w.rules n.0.holds (λ known. told_now new start (h ++ e ∷ []) tells (subst (λ o. ToldBy (At o) start (h ++ e ∷ [])) (sym same) known)) n.1
 
   module _ {V : Type 0} (v : View Entry (Opened D A C)) (p : Seat (Option V) (View Entry (Opened D A C))) (entries : ℕ)
       (b : IsBegun w v p entries) where

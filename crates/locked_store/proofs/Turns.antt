@@ -1,18 +1,15 @@
 -- A turn of the store, between a pass's beginning of its turn and the end.
-use Rattle.std.specs.Prelude.{IfErr, IfOk}
 use Rattle.std.proofs.Common.{Err, List, None, Ok, Option, Result, Some, [], ap, arith, false, get_or, inl, inr, is_some, length, refl, subst, suc, sym, true, zero, ℕ, ⊎_elim, ◌++◌, ◌+◌, ◌-◌, ◌<◌, ◌^◌, ◌∙◌, ◌∷◌, ◌≡◌, ◌≤◌}
-use Rattle.locked_store.proofs.Common.{Adds, AddsAs, AllByRecursion, AreHoldings, AreRising, Call, Copies, Copy, Creates, CreatesKey, DecidesAfter, DecidesBefore, Destroy, Destroys, Entry, FaultCounts, FaultMark, Gains, Gives, HasOut, HasOutBeside, HoldsOf, IsAmong, IsBegun, IsCaller, IsClear, IsEntered, IsEnteredAfter, IsEntry, IsHolding, IsOwn, IsRanked, IsStartOf, IsTold, LeavesAllKeys, LeavesKeys, Makes, NoFewerFaults, OnStore, Opened, Opening, Pairs, Plain, Reads, ReadsAndGives, ReadsKey, Request, Seat, Service, Stands, StandsFor, Steps, Store, Takes, ToldBy, View, World, created_unless, entries_of, may_change_keys, named, names, opening_of, plain_step, quiet_leaves, refused_leaves, replay, result_mark, told_before, turn_entry, with_held_by, without_pair}
-use Rattle.turn_history.proofs.Lists.{entries_fewer}
+use Rattle.locked_store.proofs.Common.{Adds, AddsAs, AllByRecursion, AreHoldings, AreRising, Call, Copies, Copy, created_unless, Creates, CreatesKey, DecidesAfter, DecidesBefore, Destroy, Destroys, entries_fewer, entries_of, Entry, FaultCounts, FaultMark, Gains, Gives, has_model, HasModel, HasOut, HasOutBeside, IfErr, IfOk, IsAmong, IsBegun, IsCaller, IsClear, IsEntered, IsEnteredAfter, IsEntry, IsHolding, IsOwn, IsRanked, IsTold, LeavesAllKeys, LeavesKeys, Makes, may_change_keys, named, names, NoFewerFaults, OnStore, Opened, Pairs, Plain, plain_step, quiet_leaves, Reads, ReadsAndGives, ReadsKey, refused_leaves, replay, Request, result_mark, Seat, Service, Stands, Steps, Store, Success, Takes, told_before, ToldBy, turn_entry, View, with_held_by, without_pair, World}
 use Rattle.turn_history.proofs.Using.{keeps_own}
 use Rattle.key_attributes.specs.declared.Attributes.{Attributes}
 use Rattle.psa_status.specs.declared.Status.{Status}
-use Rattle.psa_status.specs.declared.Status.TheVariants.{Success}
 use Rattle.slot_table.specs.Lent as lent
 use Rattle.store_model.specs.Store as model
 use Rattle.store_core.proofs.Rises.{rising_push}
 use Rattle.locked_store.proofs.Owning.{fewer, gains, loses, splits, with_holding}
 use Rattle.locked_store.proofs.Passing.{goes_on, signed_push}
-use Rattle.locked_store.proofs.Renewing.{As, At, For, From, Here, decides_after, holdings, is_entry, reading, renewed, told_now, told_then}
+use Rattle.locked_store.proofs.Renewing.{As, At, For, From, Here, decides_after, holdings, is_entry, model_as, reading, renewed, told_now, told_then}
 
 -- a pair of one caller is one of all
 named_at : (i k j : ℕ) (all : List Pairs) → j < length all → names i k (get_or all j []) ≤ named i k all
@@ -245,30 +242,25 @@ module _ {V D A C : Type 0} {w : World D A C} {v : View Entry (Opened D A C)} {p
   -- a ranked turn that leads on from every start, where P held of the one-thread store before it
   abbrev pub LedBefore : Store D A C → Request → FaultMark → Pairs → (model.Store → Type 0) → Type 0
   LedBefore new call mark own' P = (start : Service) → From w old.opened start → For w new start (As w old.opened) (seen ++ entry_of w p new call mark ∷ []) (with own')
-      × (m : model.Store) × (ToldBy (At w old.opened) start (seen ++ entry_of w p new call mark ∷ []) → m ≡ (replay start seen).store) × P m
+      × HasModel (ToldBy (At w old.opened) start (seen ++ entry_of w p new call mark ∷ [])) start seen P
 
   pub turned_before : {new : Store D A C} (call : Request) (mark : FaultMark) (own' : Pairs) (P : model.Store → Type 0) → IsSteady w old new → LedBefore new call mark own' P → IsTurned w p new call mark own' (DecidesBefore w P)
   turned_before {new} call mark own' P k led = record {
     stands = renews new call mark own' k (λ start is. (led start is).0);
-    decided = λ start is. let n = led start (subst (λ o. From w o start) (sym t.opened) is) in
-        (n.1, λ known. n.2 (subst (λ o. ToldBy (At w o) start (seen ++ entry_of w p new call mark ∷ [])) (sym t.opened) known), n.3);
+    decided = λ start is.
+        subst (λ o. HasModel (ToldBy (At w o) start (seen ++ entry_of w p new call mark ∷ [])) start seen P) t.opened (led start (subst (λ o. From w o start) (sym t.opened) is)).1;
   }
 
-  -- the store's model is the one-thread store before an entry, as far as that is told with it
-  was : (start : Service) (e : Entry) (from : For w old start (As w old.opened) seen all) → ToldBy (At w old.opened) start (seen ++ e ∷ []) → from.holds.model ≡ (replay start seen).store
-  was start e from known = from.holds.replayed (told_now w old start seen t.stands.tells
-      (told_before (w.disk.contents old.opened.file.value.cells.disk) start seen e known))
-
-  -- what holds of the store's model now was so before any entry
-  pub decided_now : (P : model.Store → Type 0) (e : Entry) → HoldsOf w.disk w.devices w.rules old P → DecidesBefore w P seen e
-  decided_now P e holds start is = let from = t.stands.each start (subst (λ o. From w o start) (sym t.opened) is) in
-      (from.holds.model, λ known. was start e from (subst (λ o. ToldBy (At w o) start (seen ++ e ∷ [])) (sym t.opened) known), holds start (As w old.opened) seen all from)
+  -- what holds of the store's model was decided before an entry
+  decided : (P : model.Store → Type 0) (start : Service) (e : Entry) (from : For w old start (As w old.opened) seen all) → P from.holds.model → HasModel (ToldBy (At w old.opened) start (seen ++ e ∷ [])) start seen P
+  decided P start e from is =
+      has_model w.disk w.devices w.rules from.holds (λ known. told_now w old start seen t.stands.tells (told_before (w.disk.contents old.opened.file.value.cells.disk) start seen e known)) is
 
   pub destroys : (new : Store D A C) (call : Request) (id : ℕ) (mark : FaultMark) (P : model.Store → Type 0) → Destroys w.disk w.devices w.rules old new id mark P →
       call ≡ OnStore (Destroy id) → LedBefore new call mark own P
   destroys new call id mark P destroyed is_call start is = let from = t.stands.each start is in
       let n = destroyed start (As w old.opened) seen all (entry_of w p new call mark) from is_call (entered new call mark) in
-      (subst (For w new start (As w old.opened) (seen ++ entry_of w p new call mark ∷ [])) kept n.0, from.holds.model, was start (entry_of w p new call mark) from, n.1)
+      (subst (For w new start (As w old.opened) (seen ++ entry_of w p new call mark ∷ [])) kept n.0, decided P start (entry_of w p new call mark) from n.1)
 
   pub creates : (new : Store D A C) (call : Request) (caller : ℕ) (lease : Option lent.Reading) (records : model.Store → Result Attributes Status → Type 0) (bytes : List ℕ) (pair : ℕ × ℕ) (mark : FaultMark) (P : model.Store → Type 0) →
       Creates w.disk w.devices w.rules old new caller lease records (λ m. bytes) pair mark P → IsHolding v.holding → 0 < names pair.0 pair.1 v.holding → IsOwn lease v.holding → caller ≡ v.number →
@@ -287,7 +279,7 @@ module _ {V D A C : Type 0} {w : World D A C} {v : View Entry (Opened D A C)} {p
         answers = λ known recorded is_recorded. subst (λ k. (plain_step (replay start seen) k call).reply ≡ (created_unless (replay start seen).store caller recorded bytes).reply) (sym number)
             (makes.answers start is_start seen goes (then known) recorded is_recorded);
       }) (entered new call mark) in
-      (n.0, from.holds.model, was start (entry_of w p new call mark) from, n.1)
+      (n.0, decided P start (entry_of w p new call mark) from n.1)
 
   pub copies : (new : Store D A C) (call : Request) (caller source : ℕ) (stated : Attributes) (pair : ℕ × ℕ) (mark : FaultMark) (P : model.Store → Type 0) → IsSteady w old new →
       Copies w.disk w.devices w.rules old new caller source stated pair mark P → IsHolding v.holding → 0 < names pair.0 pair.1 v.holding → caller ≡ v.number →
@@ -295,4 +287,4 @@ module _ {V D A C : Type 0} {w : World D A C} {v : View Entry (Opened D A C)} {p
   copies new call caller source stated pair mark P k copied holding some is_caller is_call start is =
       let n = copied start (As w old.opened) seen all (with (without_pair pair own)) (entry_of w p new call mark) (t.stands.each start is) (taken pair some) (with_holding all p.me.0.number (without_pair pair own) (fewer pair own (mine holding)) are)
       (t.begun.on.number ∙ sym is_caller) is_call (entered new call mark) in
-      (n.0, n.1, λ known. n.2 (⊎_elim (λ (e : is_some (w.disk.contents old.opened.file.value.cells.disk) ≡ true). inl (k.tells ∙ (t.stands.tells ∙ e))) (λ none. inr none) known), n.3)
+      (n.0, model_as (λ known. ⊎_elim (λ (e : is_some (w.disk.contents old.opened.file.value.cells.disk) ≡ true). inl (k.tells ∙ (t.stands.tells ∙ e))) (λ none. inr none) known) (λ m is. is) n.1)

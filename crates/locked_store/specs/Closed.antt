@@ -6,7 +6,7 @@ use Rattle.turn_history.specs.declared.pass.View.{View}
 use Rattle.turn_history.specs.Prelude.{entries_of, calls_by, StartsWith}
 use Rattle.store_model.specs.Prelude.{Service, Entry, replay, last_counts}
 use Rattle.store_core.specs.declared.store.Opened.{Opened}
-use Rattle.store_core.specs.Prelude.{KeepsKeys, course_of, durable_keys, opening_of, HasKeyOrZeros}
+use Rattle.store_core.specs.Prelude.{FreedCellsAreZeros, HasKeyOrIsClosed, HasKeyOrZeros, KeepsKeys, course_of, durable_keys, opening_of}
 use Rattle.locked_store.specs.Standing.{caller_of}
 use Rattle.locked_store.specs.Turning.{IsAt, IsLegal, IsStartOf}
 use Rattle.locked_store.specs.Worlds.{World}
@@ -18,8 +18,9 @@ AreAt w passes = (k : ℕ) (p : _) → k < length passes → IsAt w (slice_index
 -- There is one history. The passes that were handed in have seen beginnings of it, and their calls are their numbers' entries in
 -- it. Each of its marks stands where it may and has its fault; the last entry's counts are those of the disk and the devices
 -- that come back. The disk tells its bytes where it told them as it was opened, and then a crash since has left the keys of a
--- prefix, and one since a call was done those of a prefix that holds it. A crash now leaves in each cell a persistent key of the
--- one-thread store after the history, or zeros, where no key is in doubt.
+-- prefix, and one since a call was done those of a prefix that holds it. The cells that destructions have freed are zeros since,
+-- until a creation takes them. A crash now leaves in each cell a persistent key of the one-thread store after the history, or
+-- zeros, where no key is in doubt, and else one in doubt too, or a closed cell.
 pub record IsClosed {D A C : Type 0} (w : World D A C) (disk : D) (devices : A) (accounts : List (Account Entry)) : Type 0 where
   pub turns : List (Option Entry)
   pub signed : All (λ (e : Entry). (0 < e.caller) × (e.caller ≤ 16)) (entries_of turns)
@@ -30,5 +31,9 @@ pub record IsClosed {D A C : Type 0} (w : World D A C) (disk : D) (devices : A) 
   pub tells : is_some (w.disk.contents disk) ≡ is_some (w.disk.contents w.opened.file.value.cells.disk)
   pub promise : is_some (w.disk.contents w.opened.file.value.cells.disk) ≡ true → (start : Service) → IsStartOf w start →
       KeepsKeys (w.disk.left_since disk) (w.disk.moment disk) (opening_of w.disk w.devices w.rules w.opened).moment start (entries_of turns)
+  pub freed : is_some (w.disk.contents w.opened.file.value.cells.disk) ≡ true → (start : Service) → IsStartOf w start → FreedCellsAreZeros (w.disk.left_since disk) start (entries_of turns)
   pub cells : is_some (w.disk.contents w.opened.file.value.cells.disk) ≡ true → (start : Service) → IsStartOf w start → (course_of start (entries_of turns)).doubt ≡ [] →
       (image : List ℕ) → w.disk.left_since disk (w.disk.moment disk) image → (cell : ℕ) → cell < 512 → HasKeyOrZeros (durable_keys (replay start (entries_of turns)).store) cell image
+  pub any_cells : is_some (w.disk.contents w.opened.file.value.cells.disk) ≡ true → (start : Service) → IsStartOf w start →
+      (image : List ℕ) → w.disk.left_since disk (w.disk.moment disk) image → (cell : ℕ) → cell < 512 →
+      HasKeyOrIsClosed (durable_keys (replay start (entries_of turns)).store) (course_of start (entries_of turns)).doubt cell image

@@ -1,5 +1,6 @@
 -- Ranked turns of a shared store, by the pass before and after, and the call.
-use Rattle.std.specs.Prelude.{ℕ, ◌∷◌, Option}
+use Rattle.std.specs.Prelude.{◌≡◌, ℕ, true, ◌∷◌, Option}
+use Rattle.std.specs.FinMap as map
 use Rattle.atomic_table.specs.declared.shared.Seat.{Seat}
 use Rattle.turn_history.specs.declared.pass.View.{View}
 use Rattle.turn_history.specs.Prelude.{entries_of}
@@ -11,9 +12,10 @@ use Rattle.service_calls.specs.declared.call.Call.{Call}
 use Rattle.service_calls.specs.Meanings.{model_request}
 use Rattle.psa_status.specs.declared.Status.{Status}
 use Rattle.store_model.specs.Store as model
-use Rattle.store_model.specs.Prelude.{FaultMark, Plain, Entry}
+use Rattle.store_model.specs.Prelude.{FaultMark, Plain, is_opaque_key, Entry}
 use Rattle.store_core.specs.declared.store.Opened.{Opened}
-use Rattle.store_core.specs.Prelude.{IsRefused, mark_of}
+use Rattle.store_core.specs.declared.store.Store.{Store}
+use Rattle.store_core.specs.Prelude.{HasOpaque, IsRefused, mark_of}
 use Rattle.locked_store.specs.declared.held.SharedStore.{SharedStore}
 use Rattle.locked_store.specs.Turning.{DecidesAfter, DecidesBefore, IsEnteredAfter, IsRanked, filling_pair, lease_pair, without_pair}
 use Rattle.locked_store.specs.Shared.{world}
@@ -48,8 +50,10 @@ module _ {V D A C : Type 0} {d : disk.Ghosts D} {a : devices.Ghosts A} {c : admi
   EndsAfter before old new call room mark rank P =
       IsEnteredAfter before.me.0 new.me.0 (model_request call room) mark rank before.me.0.holding (entries_of old.me.0.seen) (DecidesAfter (world shared) P)
 
-  abbrev pub EndsRefused : (before old new : Pass V D A C) → Call → (room rank : ℕ) → (rows : Option model.Key → Option Status) → (id : ℕ) → Status → Type 0
-  EndsRefused before old new call room rank rows id status = EndsAfter before old new call room (mark_of status) rank (IsRefused rows id status)
+  -- one that was refused as it looked for a key, which is the secure element's only where it was so in the store before
+  abbrev pub EndsRefused : (before old new : Pass V D A C) → Call → (room rank : ℕ) → (rows : Option model.Key → Option Status) → (id : ℕ) → Status → Store D A C → Type 0
+  EndsRefused before old new call room rank rows id status store =
+      EndsAfter before old new call room (mark_of status) rank (λ m. IsRefused rows id status m × (is_opaque_key (map.get m.keys id) ≡ true → HasOpaque d a c store id))
 
   abbrev pub EndsLent : (before old new : Pass V D A C) → Call → (room rank : ℕ) → lent.Reading → (model.Store → Type 0) → Type 0
   EndsLent before old new call room rank lease P =

@@ -16,7 +16,7 @@ use Rattle.store_model.specs.Store as model
 use Rattle.store_model.specs.Prelude.{FaultMark, Plain, Service, created_unless, may_change_keys, IsCaller, Request, plain_step, Entry, replay, AreAllowed, IsCaused, id_read}
 use Rattle.store_core.specs.declared.store.Opened.{Opened}
 use Rattle.store_core.specs.declared.store.Store.{Store}
-use Rattle.store_core.specs.Prelude.{IsTold, AreRising, IsStart, opening_of, is_destruction, mark_of, mark_undestroyed, mark_uncopied, mark_unmade}
+use Rattle.store_core.specs.Prelude.{HasModel, IsTold, AreRising, IsStart, opening_of, is_destruction, mark_of, mark_undestroyed, mark_uncopied, mark_unmade}
 use Rattle.locked_store.specs.declared.changes.Change.{Change}
 use Rattle.locked_store.specs.declared.changes.Change.TheVariants.{Nothing, Lends, TakesLease, Reserves, TakesFilling}
 use Rattle.locked_store.specs.declared.changes.Met.{Met}
@@ -164,14 +164,13 @@ module _ {D A C : Type 0} (w : World D A C) where
   LeavesAllKeys v call = (may_change_keys call ≡ false)
       ⊎ ((start : Service) → IsStartOf start → (h : List Entry) → GoesOn v h → ToldBy start h → (plain_step (replay start h) v.number call).reply.status ≡ Success → ⊥)
 
-  -- P holds of the one-thread store before an entry, or after it, from each start and as far as that is told
+  -- P holds of a sound store before an entry, or after it, from each start: of the one-thread store, as far as the history with the
+  -- entry is told
   abbrev pub DecidesBefore : (model.Store → Type 0) → List Entry → Entry → Type 0
-  DecidesBefore P before e = (start : Service) → IsStartOf start →
-      (m : model.Store) × (ToldBy start (before ++ e ∷ []) → m ≡ (replay start before).store) × P m
+  DecidesBefore P before e = (start : Service) → IsStartOf start → HasModel (ToldBy start (before ++ e ∷ [])) start before P
 
   abbrev pub DecidesAfter : (model.Store → Type 0) → List Entry → Entry → Type 0
-  DecidesAfter P before e = (start : Service) → IsStartOf start →
-      (m : model.Store) × (ToldBy start (before ++ e ∷ []) → m ≡ (replay start (before ++ e ∷ [])).store) × P m
+  DecidesAfter P before e = (start : Service) → IsStartOf start → HasModel (ToldBy start (before ++ e ∷ [])) start (before ++ e ∷ []) P
 
 -- a ranked turn after a history: its entry, and what was decided there
 pub record IsEnteredAfter {B : Type 0} (v w : View Entry B) (call : Request) (mark : FaultMark) (r : ℕ) (own : Pairs) (before : List Entry) (Decided : List Entry → Entry → Type 0) : Type 0 where

@@ -1,13 +1,12 @@
 //! The turn of a call in one part with a key that the secure element may hold.
-ghost use Rattle.std.specs.Prelude.{◌≡◌, ◌<◌, true, length};
-ghost use Rattle.std.specs.FinMap as map;
+ghost use Rattle.std.specs.Prelude.{◌≡◌, ◌<◌, length};
 ghost use Rattle.secret_bytes.specs.Buffer.{IsClear};
 ghost use Rattle.turn_history.specs.Prelude.{entries_of};
 ghost use Rattle.secure_element_calls.specs.Answers.{mark_computed};
 ghost use Rattle.secure_element_calls.specs.Calls.{model_call};
 ghost use Rattle.service_calls.specs.Meanings.{model_request};
-ghost use Rattle.store_model.specs.Prelude.{OnStore, is_opaque_key};
-ghost use Rattle.store_core.specs.Prelude.{IsElementAnswered, HoldsOf};
+ghost use Rattle.store_model.specs.Prelude.{OnStore};
+ghost use Rattle.store_core.specs.Prelude.{HasOpaque, IsElementAnswered};
 ghost use Rattle.locked_store.specs.Elements.{IsLooked};
 ghost use Rattle.locked_store.specs.Standing.{HoldsHistory};
 ghost use Rattle.locked_store.specs.Turning.{HasRoomForLease, IsAt, IsLegal, IsBegun};
@@ -88,7 +87,7 @@ impl<D: Disk, A: Devices, C: Admission> SharedStore<D, A, C> {
         requires begun { IsBegun (world self.now) before.value.me.0 pass.old turn.entries }
         requires stands { HoldsHistory D.Disk A.Devices C.Admission turn.value.value.store (entries_of pass.old.me.0.seen) pass.old.me.0.holdings }
         requires opened { turn.value.value.store.opened ≡ (world self.now).opened }
-        requires opaque { HoldsOf D.Disk A.Devices C.Admission turn.value.value.store (λ m. is_opaque_key (map.get m.keys id.0) ≡ true) }
+        requires opaque { HasOpaque D.Disk A.Devices C.Admission turn.value.value.store id.0 }
         requires computes { model_request call.now (length out.old) ≡ OnStore (model_call element.now id.0 (length out.old)) }
         ensures at { IsAt (world self.now) pass.new }
         ensures legal { IsLegal (world self.now) (entries_of pass.new.me.0.seen) }

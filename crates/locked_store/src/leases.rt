@@ -85,7 +85,7 @@ impl<D: Disk, A: Devices, C: Admission> SharedStore<D, A, C> {
             (IsLent (use_refusal wanted) id.0 lease)) }
         ensures fits { IfOk result.1 (λ lease. FitsUse wanted (bytes_of lease.buffer)) }
         ensures refused { IfErr result.1 (λ refused. EndsRefused self.now before.value pass.old pass.new call.now room result.0
-            (use_refusal wanted) id.0 refused.0) }
+            (use_refusal wanted) id.0 refused.0 turn.value.value.store) }
         ensures spare { IfErr result.1 (λ refused. IsClear refused.1) }
     {
         match turn.value().store.look(id, wanted, spare) {

@@ -1,8 +1,7 @@
-use Rattle.std.proofs.Common.{ap, is_some, length, subst, sym, true, ◌∙◌, ◌≡◌}
-use Rattle.std.specs.FinMap as map
+use Rattle.std.proofs.Common.{ap, is_some, length, subst, sym, ◌∙◌}
 use Rattle.secure_element_calls.specs.Calls.{model_call}
 use Rattle.locked_store.proofs.Computing.{as_known}
-use Rattle.locked_store.proofs.Common.{DecidesAfter, HoldsOf, IsElementAnswered, IsClear, is_opaque_key, mark_computed, model_request, world}
+use Rattle.locked_store.proofs.Common.{DecidesAfter, HasOpaque, IsClear, IsElementAnswered, mark_computed, model_request, world}
 use Rattle.locked_store.proofs.Turns.{IsSteady, IsTurned, entered_after, few, in_turn, led_weaker, makes, stands_some, turned_after}
 use Rattle.locked_store.proofs.held.SharedStore.compute_in.Goals as goal
 use Rattle.locked_store.proofs.held.SharedStore.compute_in.Goals.{After-of}
@@ -15,7 +14,7 @@ opaque_call-computed-requires-clause-few g c κs within = few (in_turn c.require
 
 pub opaque_call-computed-requires-clause-opaque : goal.opaque_call-computed-requires-clause-opaque
 opaque_call-computed-requires-clause-opaque g c κs within =
-    subst (λ v. HoldsOf g.D.Disk g.A.Devices g.C.Admission v.store (λ m. is_opaque_key (map.get m.keys c.args.id.0) ≡ true)) (sym c.value.ensures.value) c.requires.opaque
+    subst (λ v. HasOpaque g.D.Disk g.A.Devices g.C.Admission v.store c.args.id.0) (sym c.value.ensures.value) c.requires.opaque
 
 -- the turn, as the store ended it
 turned : (g : _) (c : goal.After-of g) → IsTurned (world c.args.self.now) c.args.pass.now c.opaque_call-computed.new.self (model_request c.args.call.now (length c.args.out.now)) (mark_computed c.opaque_call-computed.result) c.args.pass.now.me.0.holding (DecidesAfter (world c.args.self.now) (IsElementAnswered (g.A.Devices.keys (world c.args.self.now).opened.devices.value) c.args.id.0 c.args.element.now c.args.out.now c.opaque_call-computed.new.out c.opaque_call-computed.result))

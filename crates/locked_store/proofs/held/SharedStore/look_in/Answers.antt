@@ -1,6 +1,9 @@
-use Rattle.std.proofs.Common.{ap, is_some, subst, sym, ◌∷◌}
+use Rattle.std.proofs.Common.{ap, is_some, subst, sym, true, ◌∷◌, ◌≡◌}
+use Rattle.std.specs.FinMap as map
+use Rattle.store_model.specs.Store as model
 use Rattle.locked_store.proofs.Owning.{one_lease_more}
-use Rattle.locked_store.proofs.Common.{DecidesAfter, IsHolding, IsLent, IsRefused, Plain, lease_pair, mark_of, model_request, use_refusal, world}
+use Rattle.locked_store.proofs.Common.{DecidesAfter, HasOpaque, is_opaque_key, IsHolding, IsLent, IsRefused, lease_pair, mark_of, model_request, Plain, use_refusal, world}
+use Rattle.locked_store.proofs.Renewing.{model_as}
 use Rattle.locked_store.proofs.Turns.{IsSteady, IsTurned, entered_after, few, in_turn, reads, reads_and_gives, stands_some, turned_after}
 use Rattle.locked_store.proofs.held.SharedStore.look_in.Goals as goal
 use Rattle.locked_store.proofs.held.SharedStore.look_in.Goals.{After-of, In-Err}
@@ -32,13 +35,17 @@ returns-in-Ok g c = record {
   spare = tt;
 }
 
-refused : (g : _) (c : goal.In-Err g) → IsTurned (world c.args.self.now) c.args.pass.now c.look.new.self (model_request c.args.call.now c.args.room) (mark_of c.in-Err.status) c.args.pass.now.me.0.holding (DecidesAfter (world c.args.self.now) (IsRefused (use_refusal c.args.wanted) c.args.id.0 c.in-Err.status))
+-- the key is the element's only where it was so
+abbrev IsRefusedIn : (g : _) (c : goal.In-Err g) → model.Store → Type 0
+IsRefusedIn g c m = IsRefused (use_refusal c.args.wanted) c.args.id.0 c.in-Err.status m × (is_opaque_key (map.get m.keys c.args.id.0) ≡ true → HasOpaque g.D.Disk g.A.Devices g.C.Admission c.value.result.now.store c.args.id.0)
+
+refused : (g : _) (c : goal.In-Err g) → IsTurned (world c.args.self.now) c.args.pass.now c.look.new.self (model_request c.args.call.now c.args.room) (mark_of c.in-Err.status) c.args.pass.now.me.0.holding (DecidesAfter (world c.args.self.now) (IsRefusedIn g c))
 refused g c =
     let t = in_turn c.requires.begun c.requires.stands c.requires.opened (ap (λ v. v.store) c.value.ensures.value) in
     let l = c.in-Err.ensures in
     let k : IsSteady (world c.args.self.now) c.value.result.now.store c.look.new.self = record { opened = l.opened; sized = l.size; clear = l.clear; tells = l.tells; knows = ap (λ d. is_some (g.A.Devices.keys d)) l.devices; later = l.later } in
-    turned_after t (model_request c.args.call.now c.args.room) (mark_of c.in-Err.status) c.args.pass.now.me.0.holding (IsRefused (use_refusal c.args.wanted) c.args.id.0 c.in-Err.status) k
-    (reads t c.look.new.self (model_request c.args.call.now c.args.room) c.args.id.0 (mark_of c.in-Err.status) (IsRefused (use_refusal c.args.wanted) c.args.id.0 c.in-Err.status) l.refused c.requires.quiet c.requires.reads)
+    turned_after t (model_request c.args.call.now c.args.room) (mark_of c.in-Err.status) c.args.pass.now.me.0.holding (IsRefusedIn g c) k
+    (reads t c.look.new.self (model_request c.args.call.now c.args.room) c.args.id.0 (mark_of c.in-Err.status) (IsRefusedIn g c) l.refused c.requires.quiet c.requires.reads)
 
 pub leave_ranked-rank-requires-in-Err-clause-stands : goal.leave_ranked-rank-requires-in-Err-clause-stands
 leave_ranked-rank-requires-in-Err-clause-stands g c κs within = (refused g (goal.at.leave_ranked-rank-requires-in-Err-clause-stands g c).In-Err).stands
@@ -49,6 +56,7 @@ returns-in-Err g c = record {
   legal = c.leave_ranked-rank-in-Err.ensures.legal;
   lent = tt;
   fits = tt;
-  refused = entered_after c.leave_ranked-rank-in-Err.ensures.entered (refused g (goal.at.returns-in-Err g c).In-Err).decided;
+  refused = entered_after c.leave_ranked-rank-in-Err.ensures.entered (λ start is.
+      model_as (λ k. k) (λ m r. (r.0, λ opaque. subst (λ v. HasOpaque g.D.Disk g.A.Devices g.C.Admission v.store c.args.id.0) c.value.ensures.value (r.1 opaque))) ((refused g (goal.at.returns-in-Err g c).In-Err).decided start is));
   spare = c.in-Err.ensures.spare;
 }

@@ -1,9 +1,6 @@
 use Rattle.std.proofs.Common.{Err, None, Ok, Result, Some, ap, ◌≡◌}
-use Rattle.std.proofs.lemmas.Result.{IfErr-weaker, IfOk-weaker}
 use Rattle.std.specs.FinMap as map
-use Rattle.std.specs.Prelude.{IfErr, IfOk}
-use Rattle.psa_status.specs.declared.Status.TheVariants.{InvalidHandle}
-use Rattle.locked_store.proofs.Common.{DecidesAfter, Plain, model_request, there_rows, world}
+use Rattle.locked_store.proofs.Common.{DecidesAfter, IfErr, IfErr-weaker, IfOk, IfOk-weaker, InvalidHandle, model_request, Plain, there_rows, world}
 use Rattle.locked_store.proofs.Turns.{IsTurned, counts_as, few, in_turn, ranked, steady, turned_after}
 use Rattle.locked_store.proofs.held.SharedStore.purge.Goals as goal
 use Rattle.locked_store.proofs.held.SharedStore.purge.Goals.{After-purge-purged}
