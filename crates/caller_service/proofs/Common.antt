@@ -9,7 +9,7 @@ pub use Rattle.callers.specs.declared.caller.Caller.{Caller}
 pub use Rattle.locked_store.specs.Prelude.{IsClosed, World, caller_of, world, world_of}
 pub use Rattle.operation_handles.specs.Handles.{IsOperation}
 pub use Rattle.operation_handles.specs.States.{AreInactive}
-pub use Rattle.std.proofs.lemmas.List.{length_push, map-append}
-pub use Rattle.std.proofs.lemmas.List.Elements.{All-pop, All-push}
+pub use Rattle.std.proofs.lemmas.List.{append-nil, get_or_append_left, get_or_default, get_or_push, length_push, map-append, reverse-append}
+pub use Rattle.std.proofs.lemmas.List.Elements.{All-cons, All-nil, All-pop, All-push}
 pub use Rattle.store_model.specs.Prelude.{Entry, Inactive}
-pub use Rattle.turn_history.specs.Prelude.{IsIdle, StartsWith, account_of, calls_by, entries_of}
+pub use Rattle.turn_history.specs.Prelude.{account_of, AreNew, calls_by, entries_of, IsIdle, new_pass, StartsWith}

@@ -1,12 +1,10 @@
 -- What is known of callers once a service is closed, from what is known of those that were retired.
 use Rattle.std.proofs.Common.{All, List, Some, [], ap, arith, get_or, get_or-set_other, get_or-set_same, inl, inr, length, length-append, length-set, map, refl, reverse, set, subst, sym, ℕ, ◌++◌, ◌+◌, ◌<◌, ◌∙◌, ◌∷◌, ◌≡◌, ◌≤◌}
-use Rattle.caller_service.proofs.Common.{All-pop, Caller, Entry, IsClosed, IsClosedOver, IsNewCaller, IsReady, StartsWith, WasRetired, WereRetired, World, account_of, caller_of, calls_by, entries_of, map-append}
+use Rattle.caller_service.proofs.Common.{account_of, All-cons, All-nil, All-pop, Caller, caller_of, calls_by, entries_of, Entry, get_or_append_left, get_or_push, IsClosed, IsClosedOver, IsNewCaller, IsReady, map-append, reverse-append, StartsWith, WasRetired, WereRetired, World}
 use Rattle.std.proofs.lemmas.Bool.Decides.{eqb_tells}
 use Rattle.turn_history.specs.declared.pass.Account.{Account}
 use Rattle.turn_history.proofs.Lists.{entries-append}
 use Rattle.callers.proofs.Journeys.{begins_through}
-use Rattle.std.proofs.lemmas.List.{get_or_append_left, get_or_push, reverse-append}
-use Rattle.std.proofs.lemmas.List.Elements.{All-cons, All-nil}
 
 -- what holds of what is made of each, from the last on, holds of each
 all_reversed : {X Y : Type 0} (f : X → Y) (P : Y → Type 0) (xs : List X) → All P (map f (reverse xs)) → All (λ x. P (f x)) xs
@@ -75,6 +73,8 @@ module _ {D A C : Type 0} (w : World D A C) (disk : D) (devices : A) (old new : 
       counts = closed.counts;
       tells = closed.tells;
       promise = closed.promise;
+      freed = closed.freed;
       cells = closed.cells;
+      any_cells = closed.any_cells;
     };
   }

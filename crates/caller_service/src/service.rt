@@ -146,7 +146,8 @@ impl<D: Disk, A: Devices, C: Admission, G: Gate> Service<D, A, C, G> {
 
     /// Makes a call of a caller, and answers its rank beside what it gives: bytes are written to the front of the buffer.
     /// It has no rank exactly where the caller's budget doesn't suffice for it: then the answer is `PassWorn`, and nothing
-    /// has changed. Where nothing is told the clauses don't exclude this answer beside a rank.
+    /// has changed. Of what a secure element computes that doesn't tell its keys, the clauses don't exclude this answer beside
+    /// a rank.
     pub fn call<R: Wait>(
         &self,
         rt: &R,

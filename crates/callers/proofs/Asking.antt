@@ -1,13 +1,13 @@
 -- Whether the key of a handle's operation is still there, by what a turn says of the lease's number.
-use Rattle.std.proofs.Common.{Bool, Err, List, None, Ok, OnErr, OnOk, Option, Result, Some, [], ap, arith, false, get_or, refl, subst, sym, true, ℕ, ⊎_elim, ◌++◌, ◌-◌, ◌<◌, ◌∙◌, ◌∷◌, ◌≡◌, ◌≤◌}
-use Rattle.callers.proofs.Common.{Active, Caller, OperationHandle, DecidesAfter, Entry, HandleOperation, HasNumber, InError, Inactive, IsCalled, IsOperation, IsRanked, IsReady, KeyCreation, KnowsBefore, LeavesAllKeys, OnHandle, OnStore, Operation, Plain, Reading, Request, Service, Status, Success, Work, World, by_number, counted, false≢true, held_with, is_active, is_alive, key_of_operation, leaves_shared, may_change_keys, operation_at, operation_of, outcome_of, plain_step, replay, replay_push}
-use Rattle.std.specs.Result.{is_ok}
-use Rattle.std.specs.Option.{option_map}
+use Rattle.std.proofs.Common.{Bool, subst, Err, inl, inr, ◌⊎◌, List, None, Ok, OnErr, OnOk, Option, Result, Some, [], ap, arith, false, get_or, refl, sym, true, ℕ, ⊎_elim, ◌++◌, ◌-◌, ◌<◌, ◌∙◌, ◌∷◌, ◌≡◌, ◌≤◌}
+use Rattle.callers.proofs.Common.{Active, Caller, counted, DecidesAfter, Entry, HandleOperation, HasNumber, held_with, Inactive, InError, is_active, is_alive, is_ok, IsAsked, IsCalled, IsOperation, IsRanked, IsReady, key_of_operation, KeyCreation, known_more, KnowsAlive, KnowsBefore, KnowsTold, leaves_shared, LeavesAllKeys, may_change_keys, OnHandle, OnStore, Operation, operation_at, OperationHandle, option_map, outcome_of, Plain, plain_step, Reading, rekeyed, replay, Request, Service, Status, Success, Work, World}
 use Rattle.store_model.specs.Store as model
 use Rattle.store_model.proofs.LeftAll.{leaves_all}
 use Rattle.operation_handles.specs.Families.{embed_of}
 use Rattle.callers.proofs.Journeys.{called, told_front}
-use Rattle.callers.proofs.Readying.{known, outcome_is}
+use Rattle.callers.proofs.Readying.{outcome_is}
+use Rattle.callers.proofs.Rekeying.{LivesBy, chosen, no_test}
+use Rattle.callers.proofs.Supposed.{by_after, by_none, standing, supposed}
 
 -- THE KEY OF A CELL
 
@@ -48,22 +48,34 @@ unleased_key c Inactive s none = refl
 unleased_key c InError s none = refl
 unleased_key c (Active held) s none = key_of_cell c (Active held) s refl ∙ no_key s.key (sym s.leased ∙ ap (option_map (λ (l : Reading). l.creation)) none)
 
+unkeyed : (operation : HandleOperation) → key_of_operation operation ≡ None → operation ≡ rekeyed None operation
+unkeyed Inactive none = refl
+unkeyed InError none = refl
+unkeyed (Active held) none = ap (λ k. Active (record held { key = k })) none
+
 -- THE TURN
 
 refused_store : (service : Service) (caller : ℕ) (request : Request) → ((plain_step service caller request).reply.status ≡ Success → ⊥) → (plain_step service caller request).service.store ≡ counted service.store
 refused_store service caller (OnStore call) fails = ap (λ (s : Service). s.store) (leaves_all service caller (OnStore call) fails)
 refused_store service caller (OnHandle handle call) fails = ap (λ (s : Service). s.store) (leaves_all service caller (OnHandle handle call) fails)
 
-agree : (b : Bool) (P : Type 0) → ((b ≡ true) → P) → (P → b ≡ true) → (found : Bool) → (found ≡ true → P) → (found ≡ false → P → ⊥) → found ≡ b
-agree true P gives given true ok bad = refl
-agree true P gives given false ok bad = absurd (bad refl (gives refl))
-agree false P gives given true ok bad = sym (given (ok refl))
-agree false P gives given false ok bad = refl
+-- what a store tells of the lease's number, and by that of the key
+abbrev Tells : (alive : Bool) → Reading → model.Store → Type 0
+Tells true lease m = HasNumber m lease.creation
+Tells false lease m = HasNumber m lease.creation → ⊥
+
+either : (alive : Bool) (lease : Reading) (m : model.Store) → Tells alive lease m → (HasNumber m lease.creation) ⊎ (HasNumber m lease.creation → ⊥)
+either true lease m has = inl has
+either false lease m none = inr none
+
+alive_by : (alive : Bool) (lease : Reading) (m : model.Store) (key : Option KeyCreation) → Tells alive lease m → LivesBy m lease key → alive ≡ is_alive m key
+alive_by true lease m key has l = sym (l.lives has)
+alive_by false lease m key none l = sym (no_test (is_alive m key) (λ yes. none (l.has yes)))
 
 module _ {D A C : Type 0} (w : World D A C) (n : ℕ) (old new : Caller D A C) (r : IsReady w n old) (turns : ℕ) (call : Request) (rank : ℕ) (before : List Entry) (e : Entry)
     (c : IsCalled old.pass.me.0 new.pass.me.0 turns call Plain rank before e) where
   -- the entry leaves all keys
-  pub counts_only : LeavesAllKeys w old.pass.me.0 call → KnowsBefore w (λ service. (outcome_of service e).service.store ≡ counted service.store) before e
+  pub counts_only : LeavesAllKeys w old.pass.me.0 call → KnowsTold w (λ service. (outcome_of service e).service.store ≡ counted service.store) before e
   counts_only leaves start is tells =
       let service = replay start before in
       let served = ap (λ (s : _). s.service.store) (outcome_is service e old.pass.me.0.number call Plain c.by c.call_is c.mark_is) in
@@ -75,52 +87,52 @@ module _ {D A C : Type 0} (w : World D A C) (n : ℕ) (old new : Caller D A C) (
     inside : handle - 1 < 4
     inside = omega arith
 
-    operation_is : KnowsBefore w (λ service. operation_of service old.number handle ≡ operation_at r.operations handle) before e
-    operation_is start is tells = (known w n old new r turns call Plain rank before e c start is tells).own.each handle first last
+    stands : IsOperation cell (operation_at r.operations handle)
+    stands = r.stand.each (handle - 1) cell inside at
+
+    abbrev Asks : Bool → Type 0
+    Asks alive = KnowsBefore w (λ service. IsAsked service old.number handle (operation_at r.operations handle) old.stream alive) before e
 
     -- without a lease there is no key to look for
-    pub alive_without : cell.lease ≡ None → KnowsBefore w (λ service. true ≡ is_alive service.store (key_of_operation (operation_of service old.number handle))) before e
-    alive_without none start is tells =
-        let service = replay start before in
-        sym (ap (λ o. is_alive service.store (key_of_operation o)) (operation_is start is tells) ∙ ap (is_alive service.store) (unleased_key cell (operation_at r.operations handle) (r.stand.each (handle - 1) cell inside at) none))
+    pub alive_without : cell.lease ≡ None → Asks true
+    alive_without none = known_more (λ service x. record {
+      key = None;
+      operation_is = x.holds.0 ∙ unkeyed (operation_at r.operations handle) (unleased_key cell (operation_at r.operations handle) stands none);
+      lives = sym (ap (λ o. is_alive service.store (key_of_operation o)) x.holds.0 ∙ ap (is_alive service.store) (unleased_key cell (operation_at r.operations handle) stands none));
+      random = x.random;
+    }) (standing w n old new r turns call Plain rank before e c first last (by_none w n old new r turns call Plain rank before e c))
 
     -- with one, its number tells
     pub alive_with : (lease : Reading) (alive : Bool) → cell.lease ≡ Some lease → LeavesAllKeys w old.pass.me.0 call →
-        (alive ≡ true → DecidesAfter w (λ m. HasNumber m lease.creation) before e) →
-        (alive ≡ false → DecidesAfter w (λ m. HasNumber m lease.creation → ⊥) before e) →
-        KnowsBefore w (λ service. alive ≡ is_alive service.store (key_of_operation (operation_of service old.number handle))) before e
-    alive_with lease alive leased leaves there gone start is tells =
-        let service = replay start before in
-        let k = known w n old new r turns call Plain rank before e c start is tells in
-        let operation = operation_is start is tells in
-        let creation = leased_key cell (operation_at r.operations handle) lease (r.stand.each (handle - 1) cell inside at) (r.stand.over (handle - 1) cell inside at) leased in
-        let held : key_of_operation (operation_of service old.number handle) ≡ Some creation.0 = ap key_of_operation operation ∙ creation.1 in
-        let by = by_number service k.sound old.number handle creation.0 held in
-        let after : (replay start (before ++ e ∷ [])).store ≡ counted service.store = ap (λ (s : Service). s.store) (replay_push start before e) ∙ counts_only leaves start is tells in
-        agree (is_alive service.store (Some creation.0)) (HasNumber service.store lease.creation)
-        (λ yes. subst (HasNumber service.store) creation.2 (by.0 yes)) (λ has. by.1 (subst (HasNumber service.store) (sym creation.2) has)) alive
-        (λ yes. let d = there yes start is in subst (λ (m : model.Store). HasNumber m lease.creation) (d.1 tells ∙ after) d.2)
-        (λ no has. let d = gone no start is in d.2 (subst (λ (m : model.Store). HasNumber m lease.creation) (sym (d.1 tells ∙ after)) has))
-        ∙ sym (ap (is_alive service.store) held)
+        DecidesAfter w (Tells alive lease) before e → Asks alive
+    alive_with lease alive leased leaves tells =
+        let creation = leased_key cell (operation_at r.operations handle) lease stands (r.stand.over (handle - 1) cell inside at) leased in
+        known_more (λ service x. let h = x.holds in record { key = h.0; operation_is = h.1; lives = h.2; random = x.random })
+        (supposed w n old new r turns call Plain rank before e c first last
+        (λ o m. (key : Option KeyCreation) × (o ≡ rekeyed key (operation_at r.operations handle)) × (alive ≡ is_alive m (key_of_operation o)))
+        (by_after w (Tells alive lease) (counts_only leaves) tells)
+        (λ m told.
+        let x = chosen m (operation_at r.operations handle) lease creation.0 creation.1 creation.2 (either alive lease (counted m) told) in
+        let o = rekeyed x.0 (operation_at r.operations handle) in (o, x.1, (x.0, refl, alive_by alive lease (counted m) (key_of_operation o) told (record { has = x.2.has; lives = x.2.lives })))))
 
 -- the ranked turn of a call that asks so
 module _ {D A C : Type 0} (w : World D A C) (n : ℕ) (old new : Caller D A C) (r : IsReady w n old) (call : Request) (rank : ℕ) (handle : ℕ) (first : 1 ≤ handle) (last : handle ≤ 4)
     (cell : OperationHandle) (at : cell ≡ get_or old.handles.list.items (handle - 1) cell) where
   abbrev Asked : Bool → Type 0
-  Asked alive = IsRanked old.pass.me.0 new.pass.me.0 call Plain rank old.pass.me.0.holding (KnowsBefore w (λ service. alive ≡ is_alive service.store (key_of_operation (operation_of service old.number handle))))
+  Asked alive = IsRanked old.pass.me.0 new.pass.me.0 call Plain rank old.pass.me.0.holding (KnowsAlive w old handle alive)
 
   as_decided : {P Q : List Entry → Entry → Type 0} (i : IsRanked old.pass.me.0 new.pass.me.0 call Plain rank old.pass.me.0.holding P) → Q i.before i.after.entry → IsRanked old.pass.me.0 new.pass.me.0 call Plain rank old.pass.me.0.holding Q
   as_decided i decided = record { before = i.before; after = record { entry = i.after.entry; entered = i.after.entered; decided = decided } }
 
   pub asked_without : cell.lease ≡ None → IsRanked old.pass.me.0 new.pass.me.0 call Plain rank old.pass.me.0.holding (λ before e. Unit {0}) → Asked true
-  asked_without none i = as_decided i (alive_without w n old new r 1 call rank i.before i.after.entry (called i.after.entered) handle first last cell at none)
+  asked_without none i = as_decided i (λ slack ready. alive_without w slack old new ready 1 call rank i.before i.after.entry (called i.after.entered) handle first last cell at none)
 
   pub asked_with : (lease : Reading) (answer : Result (Unit {0}) Status) (alive : Bool) → alive ≡ is_ok answer → cell.lease ≡ Some lease → LeavesAllKeys w old.pass.me.0 call →
       OnOk answer (IsRanked old.pass.me.0 new.pass.me.0 call Plain rank old.pass.me.0.holding (DecidesAfter w (λ m. HasNumber m lease.creation))) →
       OnErr answer (IsRanked old.pass.me.0 new.pass.me.0 call Plain rank old.pass.me.0.holding (DecidesAfter w (λ m. HasNumber m lease.creation → ⊥))) → Asked alive
   asked_with lease (Ok u) alive tells leased leaves i gone =
-      as_decided i (alive_with w n old new r 1 call rank i.before i.after.entry (called i.after.entered) handle first last cell at lease alive leased leaves
-      (λ yes. i.after.decided) (λ no. absurd (false≢true (sym no ∙ tells))))
+      as_decided i (λ slack ready. alive_with w slack old new ready 1 call rank i.before i.after.entry (called i.after.entered) handle first last cell at lease alive leased leaves
+      (subst (λ b. DecidesAfter w (Tells b lease) i.before i.after.entry) (sym tells) i.after.decided))
   asked_with lease (Err status) alive tells leased leaves there i =
-      as_decided i (alive_with w n old new r 1 call rank i.before i.after.entry (called i.after.entered) handle first last cell at lease alive leased leaves
-      (λ yes. absurd (false≢true (sym tells ∙ yes))) (λ no. i.after.decided))
+      as_decided i (λ slack ready. alive_with w slack old new ready 1 call rank i.before i.after.entry (called i.after.entered) handle first last cell at lease alive leased leaves
+      (subst (λ b. DecidesAfter w (Tells b lease) i.before i.after.entry) (sym tells) i.after.decided))

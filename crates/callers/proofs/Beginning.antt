@@ -1,15 +1,14 @@
 -- A caller after a setup.
 use Rattle.std.proofs.Common.{Err, List, None, Ok, Result, ap, arith, cond, count_by, false, get_or, length, not, refl, subst, sym, true, ℕ, ◌+◌, ◌-◌, ◌<◌, ◌^◌, ◌∙◌, ◌∷◌, ◌≡◌, ◌≤◌}
-use Rattle.callers.proofs.Common.{After, AnswersReply, AreOperations, ArePairs, Caller, OperationHandle, DecidesAfter, Entry, FaultMark, HandleOperation, Held, HoldsLease, Inactive, IsAnswered, IsAt, IsCalled, IsChanged, IsEntered, IsLent, IsOperation, IsReady, IsRefused, KeyUse, Keyed, KeyedSetup, Keyless, KeylessSetup, KnowsBefore, Legal, OnHandle, Output, Pairs, Plain, Reading, ReadsKey, Request, Setup, Status, TellsFailure, World, applied, buffer_after, busy, entries_of, failure_marked, id_read, is_inactive, lease_pair, leases_of, mark_of, may_change_keys, model_setup, operation_at, operation_of, outcome_of, plain_reply, refusal_without_key, replay, set-get_or, set_up_by, set_up_with_key, set_up_without_key, setups, stays, use_refusal, used_for, with_operation_at, work_without_key}
-use Rattle.std.specs.Result.{is_ok}
+use Rattle.callers.proofs.Common.{After, AnswersReply, applied, AreOperations, ArePairs, buffer_after, busy, Caller, DecidesAfter, entries_of, Entry, failure_marked, FaultMark, HandleOperation, Held, HoldsLease, id_read, Inactive, is_inactive, is_ok, IsAnswered, IsAt, IsCalled, IsChanged, IsEntered, IsLent, IsOperation, IsReady, IsRefused, Keyed, KeyedSetup, Keyless, KeylessSetup, KeyUse, known_more, known_told, KnowsBefore, lease_pair, leases_of, Legal, mark_of, may_change_keys, model_setup, OnHandle, operation_at, operation_of, OperationHandle, outcome_of, Output, Pairs, Plain, plain_reply, Reading, ReadsKey, refusal_without_key, replay, Request, Served, Service, set-get_or, set_up_by, set_up_with_key, set_up_without_key, Setup, setups, Status, stays, TellsFailure, use_refusal, used_for, with_operation_at, work_without_key, World}
 use Rattle.psa_status.specs.declared.Status.TheVariants as status
 use Rattle.service_calls.specs.declared.output.Output.TheVariants as output
 use Rattle.callers.proofs.HandleLists.{busy_put, cell_at, few, once, tally-cons}
 use Rattle.callers.proofs.Failing.{answers_plain, set_up_plainly}
 use Rattle.callers.proofs.Journeys.{called}
 use Rattle.callers.proofs.Looking.{AreSpares, same_spares}
-use Rattle.callers.proofs.Readying.{applied_answered, applied_there, known, outcome_is, own_there, ready}
-use Rattle.callers.proofs.Storing.{decided_after}
+use Rattle.callers.proofs.Readying.{applied_answered, applied_there, outcome_is, own_there, ready}
+use Rattle.callers.proofs.Supposed.{by_after, by_none, quiet_leaves, standing}
 use Rattle.callers.proofs.SettingUp.{begun_lent, counts, draws_none, quiet, reads, set_up_lent, set_up_refused, set_up_twice, still}
 
 pub waits_by : (operations : List HandleOperation) (handle : ℕ) (operation : HandleOperation) (more : ℕ) → handle ≤ 4 → 1 ≤ handle → length operations ≡ 4 → operation_at operations handle ≡ Inactive → once (not (is_inactive operation)) ≤ more →
@@ -28,14 +27,17 @@ module _ {D A C : Type 0} (w : World D A C) (old new : Caller D A C) (r : IsRead
   abbrev made : IsCalled old.pass.me.0 new.pass.me.0 1 request mark rank before e
   made = called i
 
-  -- what the one-thread service makes of a setup
-  pub sets_up : (s : Setup) → request ≡ OnHandle handle (model_setup s) → mark ≡ Plain →
-      KnowsBefore w (λ service. outcome_of service e ≡ applied service old.number handle (set_up_by service.store (operation_at r.operations handle) s)) before e
-  sets_up s asks plain start is tells =
-      let service = replay start before in
-      let mine = (known w 4 old new r 1 request mark rank before e made start is tells).own.each handle first last in
+  -- what a one-thread service makes of a setup that has the caller's operation there
+  serves : (s : Setup) → request ≡ OnHandle handle (model_setup s) → mark ≡ Plain → (service : Service) → operation_of service old.number handle ≡ operation_at r.operations handle →
+      outcome_of service e ≡ applied service old.number handle (set_up_by service.store (operation_at r.operations handle) s)
+  serves s asks plain service mine =
       outcome_is service e old.number (OnHandle handle (model_setup s)) Plain (i.by ∙ r.number) (i.call_is ∙ asks) (i.mark_is ∙ plain)
       ∙ (setups service old.number handle s ∙ (λ j. applied service old.number handle (set_up_by service.store (mine j) s)))
+
+  pub sets_up : (s : Setup) → request ≡ OnHandle handle (model_setup s) → mark ≡ Plain →
+      KnowsBefore w (λ service. outcome_of service e ≡ applied service old.number handle (set_up_by service.store (operation_at r.operations handle) s)) before e
+  sets_up s asks plain =
+      known_more (λ service x. serves s asks plain service x.holds.0) (standing w 4 old new r 1 request mark rank before e made first last (by_none w 4 old new r 1 request mark rank before e made))
 
   module _ (after : After Held) (applies : KnowsBefore w (λ service. outcome_of service e ≡ applied service old.number handle after) before e) where
     -- what such a call changes of a caller beside its pass and its handles, where so many leases are kept and it counts so often
@@ -55,7 +57,7 @@ module _ {D A C : Type 0} (w : World D A C) (old new : Caller D A C) (r : IsRead
         ready w 4 old new r 1 request mark rank before e made (with_operation_at r.operations handle after.operation) 0 at legal (record {
           number = b.number;
           stand = stand;
-          own = applied_there w 4 old new r 1 request mark rank before e made first last after applies (place ∙ still old.stream.place after.drawn b.drawn);
+          own = applied_there w 4 old new r 1 request mark rank before e made first last after (known_told applies) (place ∙ still old.stream.place after.drawn b.drawn);
           leases = λ f. ap (count_by f) i.holding ∙ leases f;
           clear = b.spares.clear;
           five = let m = b.spares.many in let f = r.five in omega (arith, count);
@@ -77,12 +79,13 @@ module _ {D A C : Type 0} (w : World D A C) (old new : Caller D A C) (r : IsRead
 
     pub begun_answered : (result : Result Output Status) → TellsFailure w result mark → AnswersReply result after.reply → ((buffer : List ℕ) → buffer ≡ buffer_after buffer after.reply) →
         (buffer : List ℕ) → IsAnswered w old.pass.me.0 new.pass.me.0 request rank result buffer buffer
-    begun_answered result failure answers unwritten buffer = applied_answered w 4 old new r 1 request mark rank before e made first last after applies result buffer buffer failure answers (unwritten buffer)
+    begun_answered result failure answers unwritten buffer =
+        applied_answered w 4 old new r 1 request mark rank before e made after (known_more (λ service same. ap (λ (s : Served). s.reply) same) applies) result buffer buffer failure answers (unwritten buffer)
 
   pub twice : (s : Setup) → request ≡ OnHandle handle (model_setup s) → mark ≡ Plain → is_inactive (operation_at r.operations handle) ≡ false →
       KnowsBefore w (λ service. outcome_of service e ≡ applied service old.number handle (stays (operation_at r.operations handle) status.BadState)) before e
-  twice s asks plain begun start is tells =
-      sets_up s asks plain start is tells ∙ ap (applied (replay start before) old.number handle) (set_up_twice (replay start before).store (operation_at r.operations handle) s begun)
+  twice s asks plain begun =
+      known_more (λ service same. same ∙ ap (applied service old.number handle) (set_up_twice service.store (operation_at r.operations handle) s begun)) (sets_up s asks plain)
 
   -- a setup without a key
   module _ (s : KeylessSetup) (asks : request ≡ OnHandle handle (model_setup (Keyless s))) (plain : mark ≡ Plain) where
@@ -137,22 +140,19 @@ module _ {D A C : Type 0} (w : World D A C) (old new : Caller D A C) (r : IsRead
 
     pub refuses : (why : Status) → mark ≡ mark_of why → DecidesAfter w (IsRefused (use_refusal wanted) s.key.0 why) before e →
         KnowsBefore w (λ service. outcome_of service e ≡ applied service old.number handle (stays Inactive why)) before e
-    refuses why marked decided start is tells =
-        let service = replay start before in
-        let k = known w 4 old new r 1 request mark rank before e made start is tells in
-        let row = decided_after w (IsRefused (use_refusal wanted) s.key.0 why) before e unchanging decided start is tells in
+    refuses why marked decided = known_more (λ service x.
         outcome_is service e old.number (OnHandle handle (model_setup (Keyed s))) (mark_of why) (i.by ∙ r.number) (i.call_is ∙ asks) (i.mark_is ∙ marked)
-        ∙ set_up_refused service old.number handle s wanted why uses (k.own.each handle first last ∙ free) row
+        ∙ set_up_refused service old.number handle s wanted why uses (x.holds.0 ∙ free) x.holds.1)
+        (standing w 4 old new r 1 request mark rank before e made first last (by_after w (IsRefused (use_refusal wanted) s.key.0 why) (quiet_leaves w before e unchanging) decided))
 
     module _ (lease : Reading) (plain : mark ≡ Plain) (decided : DecidesAfter w (IsLent (use_refusal wanted) s.key.0 lease) before e) where
       abbrev begun : After Held
       begun = begun_lent s lease
 
       lends : KnowsBefore w (λ service. outcome_of service e ≡ applied service old.number handle begun) before e
-      lends start is tells =
-          let service = replay start before in
-          let lent = decided_after w (IsLent (use_refusal wanted) s.key.0 lease) before e unchanging decided start is tells in
-          sets_up (Keyed s) asks plain start is tells ∙ ap (applied service old.number handle) (ap (λ o. set_up_with_key service.store o s) free ∙ set_up_lent service.store s wanted lease uses lent)
+      lends = known_more (λ service x.
+          serves (Keyed s) asks plain service x.holds.0 ∙ ap (applied service old.number handle) (ap (λ o. set_up_with_key service.store o s) free ∙ set_up_lent service.store s wanted lease uses x.holds.1))
+          (standing w 4 old new r 1 request mark rank before e made first last (by_after w (IsLent (use_refusal wanted) s.key.0 lease) (quiet_leaves w before e unchanging) decided))
 
       pub lent_ready : HoldsLease old.handles.list.items new.handles.list.items r.operations handle begun.operation lease → own ≡ lease_pair lease ∷ old.pass.me.0.holding →
           new.number ≡ old.number → new.stream ≡ old.stream → new.spent ≡ old.spent + 1 → AreSpares 1 old.spares new.spares → old.spent < 2 ^ 48 → IsAt w new.pass → Legal w (entries_of new.pass.me.0.seen) → IsReady w 0 new

@@ -1,14 +1,11 @@
 -- What the one-thread service makes of a call that the secure element has computed, refused or failed at.
 use Rattle.std.proofs.Common.{Bool, Err, List, MatchOption, None, Ok, Option, Result, Some, ap, arith, false, if◌then◌else◌, inl, inr, is_some, length, refl, subst, sym, true, ℕ, ◌&&◌, ◌++◌, ◌+◌, ◌∙◌, ◌≡◌, ◌≤◌, ◌⊎◌}
-use Rattle.callers.proofs.Common.{AnswersCall, AnswersReply, Call, Ctr, ElementCall, Failed, HandleOperation, Hardware, HasDrawn, IsOfElement, IsOwnPart, IsReplied, IsSound, Key, KeyedCall, NotComputed, OnStore, Output, Random, Refused, Reply, Rows, Service, Status, Store, all_rows, asks_device, computed_unless, counted, drawn_by, element_reply, enciphered, false≢true, first_row, first_row-back, first_row-front, given, has_vector, is_opaque_key, key_rows, mark_computed, marked_reply, model_call, model_keyed_call, next_random, own_of, plain_step, refusal, replies, reply_on, reply_unless, rows_before, serve, step, takes_vector, words_used}
-use Rattle.std.specs.Result.{is_ok}
+use Rattle.callers.proofs.Common.{all_rows, AnswersCall, AnswersReply, asks_device, bytes_of_key, Call, computed_unless, counted, Ctr, drawn_by, element_reply, ElementCall, enciphered, Failed, false≢true, first_row, first_row-back, first_row-front, given, HandleOperation, Hardware, has_vector, HasDrawn, is_ok, is_opaque_key, IsElementAnswered, IsOfElement, IsOwnPart, IsReplied, IsSound, Key, key_rows, KeyedCall, mark_computed, marked_reply, model_call, model_keyed_call, next_random, NotComputed, OnStore, Output, own_of, plain_step, Random, refusal, Refused, replies, Reply, reply_on, reply_unless, Rows, rows_before, serve, Service, Status, step, Store, takes_vector, words_used}
 use Rattle.std.specs.FinMap as map
 use Rattle.driver_dispatch.specs.Held.{HeldKeys}
 use Rattle.secure_element_calls.specs.declared.calls.ElementCall.TheVariants.{MacCompute, MacVerify, CtrEncrypt, CtrDecrypt}
 use Rattle.secure_element_calls.proofs.Answering.{refused_before}
 use Rattle.secure_element_calls.proofs.Replying.{asks, replies_are}
-use Rattle.store_model.specs.Prelude.{bytes_of_key}
-use Rattle.store_core.specs.Prelude.{IsElementAnswered}
 use Rattle.callers.proofs.Owned.{failed_own, stored_own}
 
 -- WHAT IS DRAWN

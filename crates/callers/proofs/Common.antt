@@ -1,5 +1,6 @@
 -- What several proofs of this crate cite of its words, and of other crates'.
 pub use Rattle.callers.specs.Prelude.{AreIdle, AreOperations, ArePairs, HoldsLease, IsAnswered, IsBack, IsCalled, IsChanged, IsCreated, IsGivenBack, IsOwnPart, IsReady, IsReplied, IsRetired, IsRetiring, IsToldTo, KnowsBefore, Legal, MakesNoCall, MayGoBack, SameButPass, Starts, TellsFailure, TellsReply, busy, drawn_by, drawn_for, failure_in, failure_marked, failure_told, leases_of, operation_at, pairs_of, with_operation_at}
+pub use Rattle.callers.proofs.Known.{KnowsTold, known_more, known_told}
 pub use Rattle.callers.specs.declared.caller.Caller.{Caller}
 pub use Rattle.derivation_states.specs.KeySteps.{output_key_refusal}
 pub use Rattle.key_attributes.specs.declared.Attributes.{Attributes}
@@ -47,11 +48,11 @@ pub use Rattle.single_part.specs.Keyed.{computed_by, wanted_by}
 pub use Rattle.slot_table.specs.Lent.{Reading}
 pub use Rattle.std.proofs.lemmas.Bool.{false≢true}
 pub use Rattle.std.proofs.lemmas.Bool.Decides.{eqb_tells, nat_tests}
-pub use Rattle.std.proofs.lemmas.List.{get_or_read_under, set-get_or}
+pub use Rattle.std.proofs.lemmas.List.{get_or-set_other, get_or-set_same, get_or_read_under, length-take-le, set-get_or, set-set}
 pub use Rattle.std.proofs.lemmas.List.Elements.{All-head, All-pop, All-push, All-tail, All-weaker}
 pub use Rattle.std.proofs.lemmas.List.Sums.{count_by-le-length, sum_by-append, sum_by-cons}
 pub use Rattle.store_core.proofs.Histories.{replay_push}
-pub use Rattle.store_core.specs.Prelude.{HasAttributes, IsLent, IsMade, IsRefused, IsTold, IsUncopied, IsUndestroyed, IsUnmade, ReadsNone, RecordsCopy, RecordsStated, is_destruction, mark_of, mark_uncopied, mark_undestroyed, mark_unmade, status_uncopied, status_undestroyed, status_unmade, there_rows}
+pub use Rattle.store_core.specs.Prelude.{HasAttributes, is_destruction, IsElementAnswered, IsLent, IsMade, IsRefused, IsTold, IsUncopied, IsUndestroyed, IsUnmade, mark_of, mark_uncopied, mark_undestroyed, mark_unmade, ReadsNone, RecordsCopy, RecordsStated, status_of, status_uncopied, status_undestroyed, status_unmade, there_rows}
 pub use Rattle.store_core.specs.declared.copying.NotCopied.{NotCopied}
 pub use Rattle.store_core.specs.declared.creating.NotMade.{NotMade}
 pub use Rattle.store_core.specs.declared.destroying.NotDestroyed.{NotDestroyed}
@@ -64,7 +65,12 @@ pub use Rattle.store_model.proofs.SoundService.{by_number}
 pub use Rattle.store_model.proofs.Tables.{NoFault, RefusesPlainly, refused_by, refuses_plainly}
 pub use Rattle.store_model.proofs.Unmarked.{answers_plainly}
 pub use Rattle.store_model.specs.Creation.{stated_bytes}
-pub use Rattle.store_model.specs.Prelude.{Abort, Active, AeadSetup, After, Authenticating, Call, CipherSetup, Ciphering, Computed, Copy, Corrupt, Ctr, DerivationSetup, DerivationWork, Deriving, Destroy, Entry, FaultMark, Generate, GetAttributes, HandleCall, HandleOperation, Hardware, HasNumber, HashSetup, Hashing, Held, Import, InError, Inactive, InputKey, IsCaller, IsSound, IsSoundOperation, IsSoundStore, Key, KeyCreation, MacSetup, OnAead, OnCipher, OnDerivation, OnHandle, OnHash, OnMac, OnStore, Operation, Outcome, OutputKey, Own, Plain, Purge, Random, Reply, Request, Sealing, Served, Service, Settings, Storage, Store, Work, aead_part, applied, asks_device, attributes_reply, buffer_after, cipher_part, class_rows, computed_unless, counted, created, created_unless, creation_of, decided, derivation_key_rows, derivation_part, derived_key, destroy_rows, destroyed, done, enciphered, ends, exhausted, export_rows, failed_step, fails, file_rows, generated, generation_of, given, goes_on, handle_step, has_secure_element, hash_part, held_after, held_with, id_read, is_alive, is_inactive, is_opaque_key, is_setup, key_of_operation, key_step_rows, mac_part, marked_reply, may_change_keys, new_own, next_derived, next_random, on_store, operation_of, outcome_of, output_key_rows, own_of, part_of, plain_step, purge_reply, recorded_copy, recorded_of, refusal, refused, replay, replies, reply_unless, room_for_key_rows, room_rows, serve, service_of, service_start, set_up, spoiled, start_of, stated_bits_rows, stays, step, step_destroy, tag_bytes, taken_from, takes_key, underived, unless_failed, with_computed, with_drawn, with_key, with_operation, with_own, without}
+pub use Rattle.store_model.specs.Prelude.{Abort, Active, aead_part, AeadSetup, After, applied, asks_device, attributes_reply, Authenticating, buffer_after, bytes_of_key, Call, cipher_part, Ciphering, CipherSetup, class_rows, Computed, computed_unless, Copy, Corrupt, counted, created, created_unless, creation_of, Ctr, decided, derivation_key_rows, derivation_part, DerivationSetup, DerivationWork, derived_key, Deriving, Destroy, destroy_rows, destroyed, done, enciphered, ends, Entry, exhausted, export_rows, failed_step, fails, FaultMark, Generate, generated, generation_of, GetAttributes, given, goes_on, handle_step, HandleCall, HandleOperation, Hardware, has_secure_element, hash_part, Hashing, HashSetup, HasNumber, Held, held_after, held_with, id_read, Import, Inactive, InError, InputKey, is_alive, is_inactive, is_opaque_key, is_setup, IsCaller, IsSound, IsSoundOperation, IsSoundStore, Key, key_of_operation, key_step_rows, KeyCreation, mac_part, MacSetup, marked_reply, may_change_keys, new_own, next_derived, next_random, on_store, OnAead, OnCipher, OnDerivation, OnHandle, OnHash, OnMac, OnStore, Operation, operation_of, Outcome, outcome_of, output_key_rows, OutputKey, Own, own_of, part_of, Plain, plain_step, Purge, purge_reply, Random, recorded_copy, recorded_of, refusal, refused, replay, replies, Reply, reply_unless, Request, room_for_key_rows, room_rows, Sealing, serve, Served, Service, service_of, service_start, set_up, Settings, spoiled, start_of, stated_bits_rows, stays, step, step_destroy, Storage, Store, tag_bytes, taken_from, takes_key, underived, unless_failed, with_computed, with_drawn, with_key, with_operation, with_own, without, Work}
 pub use Rattle.turn_history.proofs.Lists.{append_none, begins_itself, calls-append, entries-append}
 pub use Rattle.turn_history.specs.Prelude.{IsOutside, Mine, OwnCalls, StartsWith, TURNS, calls_by, choose, entries_of, joined, longer, new_pass}
 pub use Rattle.turn_history.specs.declared.pass.View.{View}
+pub use Rattle.callers.specs.HandleCalls.{FailsDerivation, IsAsked, rekeyed, with_secret, without_bytes}
+pub use Rattle.callers.specs.Parts.{KnowsAlive}
+pub use Rattle.callers.specs.declared.handles.Handles.{Handles}
+pub use Rattle.std.specs.Option.{option_map, option_map_or, option_to_list}
+pub use Rattle.std.specs.Result.{is_ok}

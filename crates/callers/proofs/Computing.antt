@@ -1,10 +1,8 @@
 -- A caller after a call in one part with a key.
 use Rattle.std.proofs.Common.{Bool, Err, List, Result, ap, arith, count_by, false, if◌then◌else◌, length, subst, sym, true, ℕ, ◌&&◌, ◌+◌, ◌<◌, ◌∙◌, ◌∷◌, ◌≡◌, ◌≤◌}
-use Rattle.callers.proofs.Common.{AnswersCall, AnswersReply, Caller, Computed, DecidesAfter, DecidesBefore, ElementCall, Entry, HasDrawn, IsAnswered, IsAt, IsCalled, IsEntered, IsGivenBack, IsLent, IsOwnPart, IsReady, IsRefused, IsReplied, KeyUse, KeyedCall, KnowsBefore, Legal, NotComputed, OnStore, Outcome, Output, Plain, RandomStream, Reading, Reply, Request, Status, World, bytes_of, computed_by, counted, drawn_by, drawn_from, draws_none, entries_of, few, has_vector, is_opaque_key, lease_pair, mark_computed, mark_of, may_change_keys, model_call, model_keyed_call, model_request, names, next_bytes, next_random, own_of, replay, step, takes_vector, use_refusal, wanted_by, with_computed, without_pair, words_used}
+use Rattle.callers.proofs.Common.{AnswersCall, AnswersReply, bytes_of, Caller, Computed, computed_by, counted, DecidesAfter, drawn_by, drawn_from, draws_none, ElementCall, entries_of, Entry, few, has_vector, HasDrawn, is_ok, IsAnswered, IsAt, IsCalled, IsEntered, IsGivenBack, IsLent, IsOwnPart, IsReady, IsRefused, IsReplied, KeyedCall, KeyId, KeyUse, known_more, known_told, KnowsBefore, lease_pair, Legal, mark_computed, mark_of, may_change_keys, model_call, model_keyed_call, model_request, names, next_bytes, next_random, NotComputed, OnStore, Outcome, Output, own_of, Plain, RandomStream, Reading, replay, Reply, Request, Service, Status, step, takes_vector, use_refusal, wanted_by, with_computed, without_pair, words_used, World}
 use Rattle.std.specs.FinMap as map
-use Rattle.std.specs.Result.{is_ok}
 use Rattle.store_core.specs.Prelude.{IsElementAnswered as IsOfElement}
-use Rattle.key_attributes.specs.declared.KeyId.{KeyId}
 use Rattle.service_calls.specs.declared.call.Call.{Call}
 use Rattle.service_calls.specs.declared.call.Call.TheVariants.{OnStore as OnStoreCall}
 use Rattle.service_calls.specs.declared.store_calls.Keyed.{Keyed}
@@ -16,7 +14,8 @@ use Rattle.callers.proofs.Journeys.{called, called_then}
 use Rattle.callers.proofs.Looking.{AreSpares, put_back}
 use Rattle.callers.proofs.Owned.{stored_own}
 use Rattle.callers.proofs.Readying.{known}
-use Rattle.callers.proofs.Storing.{decided_after, decided_known, kept_answered, kept_ready}
+use Rattle.callers.proofs.Storing.{kept_answered, kept_ready}
+use Rattle.callers.proofs.Supposed.{at_store, by_after, quiet_leaves}
 use Rattle.callers.proofs.WithKeys.{IsLocal, IsRefusal, lent_step, refusal_of}
 
 -- the request, by the key that the computation names
@@ -28,23 +27,26 @@ few_drawn true = omega arith
 few_drawn false = omega arith
 
 module _ {D A C : Type 0} (w : World D A C) (old : Caller D A C) (r : IsReady w 4 old) (asked : KeyedCall) (id room : ℕ) (wanted : KeyUse) (uses : wanted ≡ wanted_by asked) (request : Request)
-    (asks : request ≡ OnStore (model_keyed_call asked id room)) (rank : ℕ) (before : List Entry) (e : Entry) (quiet : may_change_keys e.call ≡ false) (local : KnowsBefore w (λ service. IsLocal asked id service.store) before e) where
+    (asks : request ≡ OnStore (model_keyed_call asked id room)) (rank : ℕ) (before : List Entry) (e : Entry) (quiet : may_change_keys e.call ≡ false) where
   -- THE KEY IS LENT: it is computed with, and the lease goes back
   module _ (looked settled new : Caller D A C) (lease : Reading) (i : IsEntered old.pass.me.0 looked.pass.me.0 request Plain rank (lease_pair lease ∷ old.pass.me.0.holding) before e)
-      (decided : DecidesAfter w (IsLent (use_refusal wanted) id lease) before e)
+      (decided : DecidesAfter w (λ m. IsLent (use_refusal wanted) id lease m × IsLocal asked id m) before e)
       (passed : settled.pass ≡ looked.pass) (back : IsGivenBack lease settled new) where
     made : IsCalled old.pass.me.0 new.pass.me.0 2 request Plain rank before e
     made = called_then old.pass.me.0 settled.pass.me.0 new.pass.me.0 1 request Plain rank (without_pair (lease_pair lease) settled.pass.me.0.holding) before e
         (subst (λ p. IsCalled old.pass.me.0 p.me.0 1 request Plain rank before e) (sym passed) (called i)) back.later
 
-    steps : KnowsBefore w (λ service. step service.store old.number (next_random service old.number) (model_keyed_call asked id room)
+    -- so it is computed by a service that draws the caller's words, and has lent the key
+    step_is : (service : Service) → ((count : ℕ) → next_random service old.number count ≡ next_bytes old.stream count) → IsLent (use_refusal wanted) id lease (counted service.store) × IsLocal asked id (counted service.store) →
+        step service.store old.number (next_random service old.number) (model_keyed_call asked id room) ≡ with_computed service.store (computed_by asked (bytes_of lease.buffer) (next_bytes old.stream) room)
+    step_is service random lent =
+        lent_step asked id room wanted uses service.store old.number (next_random service old.number) lease lent.1 lent.0
+        ∙ (λ j. with_computed service.store (computed_by asked (bytes_of lease.buffer) (λ n. random n j) room))
+
+    lends : KnowsBefore w (λ service. step service.store old.number (next_random service old.number) (model_keyed_call asked id room)
         ≡ with_computed service.store (computed_by asked (bytes_of lease.buffer) (next_bytes old.stream) room)) before e
-    steps start is tells =
-        let service = replay start before in
-        let k = known w 4 old new r 2 request Plain rank before e made start is tells in
-        lent_step asked id room wanted uses service.store old.number (next_random service old.number) lease (local start is tells)
-        (decided_after w (IsLent (use_refusal wanted) id lease) before e quiet decided start is tells)
-        ∙ (λ j. with_computed service.store (computed_by asked (bytes_of lease.buffer) (λ n. k.random n j) room))
+    lends = known_more (λ service s. step_is service s.0 s.1)
+        (at_store w 4 old new r 2 request Plain rank before e made (by_after w (λ m. IsLent (use_refusal wanted) id lease m × IsLocal asked id m) (quiet_leaves w before e quiet) decided))
 
     abbrev lent : Computed
     lent = computed_by asked (bytes_of lease.buffer) (next_bytes old.stream) room
@@ -67,23 +69,23 @@ module _ {D A C : Type 0} (w : World D A C) (old : Caller D A C) (r : IsReady w 
         let service = replay start before in
         let k = known w 4 old new r 2 request Plain rank before e made start is tells in
         stored_own service old.number (step service.store old.number (next_random service old.number) (model_keyed_call asked id room)) r.operations old.stream.place new.stream.place k.sound r.last k.own
-        (let a = ap (λ (s : RandomStream). s.place) (back.stream ∙ stream) in let b = ap (λ (o : Outcome). words_used o.drawn) (steps start is tells) in omega arith))
+        (let a = ap (λ (s : RandomStream). s.place) (back.stream ∙ stream) in let b = ap (λ (o : Outcome). words_used o.drawn) (known_told lends start is tells) in omega arith))
 
     pub lent_answered : (result : Result Output Status) (shown given : List ℕ) → IsReplied result shown given lent.reply → IsAnswered w old.pass.me.0 new.pass.me.0 request rank result shown given
     lent_answered result shown given fits =
         kept_answered w old new r 2 request (model_keyed_call asked id room) asks Plain rank before e made result shown given
         (λ start is. answers_plain result lent.reply fits.0 (computed_plainly asked (bytes_of lease.buffer) (next_bytes old.stream) room))
-        (λ start is tells told. subst (IsReplied result shown given) (sym (ap (λ (o : Outcome). o.reply) (steps start is tells))) fits)
+        (known_more (λ service same told. subst (IsReplied result shown given) (sym (ap (λ (o : Outcome). o.reply) same)) fits) lends)
 
   -- NO KEY IS LENT
   module _ (new : Caller D A C) (why : Status) (i : IsEntered old.pass.me.0 new.pass.me.0 request (mark_of why) rank old.pass.me.0.holding before e)
-      (decided : DecidesAfter w (IsRefused (use_refusal wanted) id why) before e) where
+      (decided : DecidesAfter w (λ m. IsRefused (use_refusal wanted) id why m × IsLocal asked id m) before e) where
     abbrev turned : IsCalled old.pass.me.0 new.pass.me.0 1 request (mark_of why) rank before e
     turned = called i
 
     refuses : KnowsBefore w (λ service. IsRefusal service old.number (model_keyed_call asked id room) (mark_of why) why) before e
-    refuses start is tells =
-        refusal_of asked id room wanted uses (replay start before) old.number why (local start is tells) (decided_after w (IsRefused (use_refusal wanted) id why) before e quiet decided start is tells)
+    refuses = known_more (λ service s. refusal_of asked id room wanted uses service old.number why s.1.1 s.1.0)
+        (at_store w 4 old new r 1 request (mark_of why) rank before e turned (by_after w (λ m. IsRefused (use_refusal wanted) id why m × IsLocal asked id m) (quiet_leaves w before e quiet) decided))
 
     pub refused_ready : new.number ≡ old.number → new.spent ≡ old.spent → new.handles ≡ old.handles → new.stream ≡ old.stream → AreSpares 0 old.spares new.spares → IsAt w new.pass → Legal w (entries_of new.pass.me.0.seen) → IsReady w 0 new
     refused_ready number spent handles stream spares at legal =
@@ -97,13 +99,13 @@ module _ {D A C : Type 0} (w : World D A C) (old : Caller D A C) (r : IsReady w 
         }) at legal (λ start is tells.
         let service = replay start before in
         let k = known w 4 old new r 1 request (mark_of why) rank before e turned start is tells in
-        (refuses start is tells).own r.operations new.stream.place k.sound r.last (subst (λ s. IsOwnPart r.operations s.place (own_of service old.number)) (sym stream) k.own))
+        (known_told refuses start is tells).own r.operations new.stream.place k.sound r.last (subst (λ s. IsOwnPart r.operations s.place (own_of service old.number)) (sym stream) k.own))
 
     pub refused_answered : (shown given : List ℕ) → given ≡ shown → IsAnswered w old.pass.me.0 new.pass.me.0 request rank (Err why) shown given
     refused_answered shown given left =
         kept_answered w old new r 1 request (model_keyed_call asked id room) asks (mark_of why) rank before e turned (Err why) shown given
-        (λ start is. let d = decided start is in refused_tells (use_refusal wanted) (use_plainly wanted) id why d.0 d.2)
-        (λ start is tells told. let gives = (refuses start is tells).gives in (gives.answers, left ∙ gives.unwritten shown))
+        (λ start is. let d = decided start is in refused_tells (use_refusal wanted) (use_plainly wanted) id why d.model d.holds.0)
+        (known_more (λ service refusal told. (refusal.gives.answers, left ∙ refusal.gives.unwritten shown)) refuses)
 
 -- THE SECURE ELEMENT HAS THE KEY, and has computed, or refused or failed to
 module _ {D A C : Type 0} (w : World D A C) (old new : Caller D A C) (r : IsReady w 4 old) (asked : KeyedCall) (element : ElementCall) (id : ℕ) (shown given : List ℕ) (result : Result ℕ NotComputed) (request : Request)
@@ -113,8 +115,8 @@ module _ {D A C : Type 0} (w : World D A C) (old new : Caller D A C) (r : IsRead
   abbrev asked_of : IsCalled old.pass.me.0 new.pass.me.0 1 request (mark_computed result) rank before e
   asked_of = called i
 
-  after : KnowsBefore w (λ service. IsOfElement (w.devices.keys w.opened.devices.value) id element shown given result (counted service.store)) before e
-  after = decided_after w (IsOfElement (w.devices.keys w.opened.devices.value) id element shown given result) before e quiet decided
+  after : KnowsBefore w (λ service. ((count : ℕ) → next_random service old.number count ≡ next_bytes old.stream count) × IsOfElement (w.devices.keys w.opened.devices.value) id element shown given result (counted service.store)) before e
+  after = at_store w 4 old new r 1 request (mark_computed result) rank before e asked_of (by_after w (IsOfElement (w.devices.keys w.opened.devices.value) id element shown given result) (quiet_leaves w before e quiet) decided)
 
   pub computed_ready : has_vector element ≡ takes_vector asked → new.number ≡ old.number → new.spent ≡ old.spent → new.handles ≡ old.handles → new.stream ≡ drawn_from old.stream (drawn_by asked (is_ok result)) → AreSpares 0 old.spares new.spares → IsAt w new.pass → Legal w (entries_of new.pass.me.0.seen) → IsReady w 0 new
   computed_ready draws number spent handles stream spares at legal =
@@ -128,14 +130,12 @@ module _ {D A C : Type 0} (w : World D A C) (old new : Caller D A C) (r : IsRead
       }) at legal (λ start is tells.
       let service = replay start before in
       let k = known w 4 old new r 1 request (mark_computed result) rank before e asked_of start is tells in
-      element_own service old.number id asked element (w.devices.keys w.opened.devices.value) shown given result model (after start is tells) draws r.operations old.stream.place new.stream.place k.sound r.last k.own (ap (λ (s : RandomStream). s.place) stream))
+      element_own service old.number id asked element (w.devices.keys w.opened.devices.value) shown given result model (known_told after start is tells).1 draws r.operations old.stream.place new.stream.place k.sound r.last k.own (ap (λ (s : RandomStream). s.place) stream))
 
-  pub computed_answered : HasDrawn element (next_bytes old.stream 16) → DecidesBefore w (λ m. is_opaque_key (map.get m.keys id) ≡ true) before e → (answer : Result Output Status) →
+  pub computed_answered : HasDrawn element (next_bytes old.stream 16) → (answer : Result Output Status) →
       ((reply : Reply) → AnswersCall element result reply → AnswersReply answer reply) → AnswersAs result answer → IsAnswered w old.pass.me.0 new.pass.me.0 request rank answer shown given
-  computed_answered vector opaque answer answers agrees =
+  computed_answered vector answer answers agrees =
       kept_answered w old new r 1 request (model_keyed_call asked id (length shown)) asks (mark_computed result) rank before e asked_of answer shown given
-      (λ start is. let d = decided start is in element_tells element (length shown) (map.get d.0.keys id) result answer d.2.decided agrees) (λ start is tells told.
-      let service = replay start before in
-      let k = known w 4 old new r 1 request (mark_computed result) rank before e asked_of start is tells in
-      element_fits service old.number id asked element (w.devices.keys w.opened.devices.value) shown given result model (after start is tells) (subst (HasDrawn element) (sym (k.random 16)) vector)
-      (decided_known w (λ m. is_opaque_key (map.get m.keys id) ≡ true) before e opaque start is tells) answer answers told)
+      (λ start is. let d = decided start is in element_tells element (length shown) (map.get d.model.keys id) result answer d.holds.decided agrees)
+      (known_more (λ service s told.
+      element_fits service old.number id asked element (w.devices.keys w.opened.devices.value) shown given result model s.1 (subst (HasDrawn element) (sym (s.0 16)) vector) s.1.opaque answer answers told) after)

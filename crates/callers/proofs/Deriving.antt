@@ -1,10 +1,11 @@
 -- What the one-thread service makes of a call that creates a key of derived bytes.
-use Rattle.std.proofs.Common.{Bool, Err, List, None, Ok, Option, Result, Some, ap, false, inl, inr, length, min, refl, subst, sym, true, ℕ, ◌∙◌, ◌≡◌, ◌≤◌, ◌⊎◌}
-use Rattle.callers.proofs.Common.{Active, Attributes, DerivationWork, Deriving, HandleOperation, HasNumber, InError, IsSound, IsUnmade, KeyCreation, NotMade, OnHandle, OutputKey, Own, Plain, Reading, RecordsStated, Served, Service, Status, applied, by_number, counted, created, created_unless, derivation_part, derived_key, fails, handle_step, has_live_key, held_after, is_alive, key_of_operation, mark_unmade, next_derived, operation_of, output_key_refusal, outputs, own_of, part_of, recorded_of, recorded_refused, refusal, serve, spoiled, stated_bytes, status_unmade, underived, with_operation, with_own, without}
+use Rattle.std.proofs.Common.{Err, List, None, Ok, Option, Result, Some, ap, inl, inr, length, min, refl, subst, sym, true, ℕ, ◌∙◌, ◌≡◌, ◌≤◌, ◌⊎◌}
+use Rattle.callers.proofs.Common.{Active, applied, Attributes, by_number, counted, created, created_unless, derivation_part, DerivationWork, derived_key, Deriving, fails, handle_step, HandleOperation, has_live_key, HasNumber, held_after, InError, is_alive, IsMade, IsSound, IsSoundOperation, IsUnmade, key_of_operation, KeyCreation, mark_unmade, next_derived, NotMade, OnHandle, operation_of, output_key_refusal, OutputKey, outputs, Own, own_of, part_of, Plain, Reading, recorded_of, recorded_refused, RecordsStated, refusal, rekeyed, serve, Served, Service, spoiled, stated_bytes, Status, status_unmade, Store, underived, with_operation, with_own, without}
 use Rattle.psa_status.specs.declared.Status.TheVariants as status
 use Rattle.store_core.specs.declared.creating.NotMade.TheVariants as unmade
 use Rattle.store_core.specs.declared.creating.Unkept.TheVariants as unkept
 use Rattle.callers.proofs.KeySizes.{few_recorded, front_recorded}
+use Rattle.callers.proofs.Rekeying.{LivesBy, chosen, no_test, part_rekeyed}
 use Rattle.callers.proofs.SettingUp.{undrawn_own}
 
 -- a lease, where there is one, is of the operation's key
@@ -12,12 +13,47 @@ abbrev pub IsLeaseOf : Option Reading → Option KeyCreation → Type 0
 IsLeaseOf None key = key ≡ None
 IsLeaseOf (Some l) key = (creation : KeyCreation) × (key ≡ Some creation) × (creation.number ≡ l.creation)
 
-no_test : (b : Bool) → (b ≡ true → ⊥) → b ≡ false
-no_test true n = absurd (n refl)
-no_test false n = refl
+-- and that is there exactly where the lease's number is
+abbrev pub LivesAs : Option Reading → Store → Option KeyCreation → Type 0
+LivesAs None m key = key ≡ None
+LivesAs (Some l) m key = LivesBy m l key
 
-module _ (service : Service) (caller handle : ℕ) (a : Attributes) (w : DerivationWork) (sound : IsSound service) (derives : part_of derivation_part (operation_of service caller handle) ≡ Active w)
-    (passes : output_key_refusal (part_of derivation_part (operation_of service caller handle)) a ≡ None) (lease : Option Reading) (of : IsLeaseOf lease (key_of_operation (operation_of service caller handle)))
+pub lease_lives : (service : Service) → IsSound service → (caller handle : ℕ) (lease : Option Reading) → IsLeaseOf lease (key_of_operation (operation_of service caller handle)) → LivesAs lease service.store (key_of_operation (operation_of service caller handle))
+lease_lives service sound caller handle None none = none
+lease_lives service sound caller handle (Some l) held = let numbers = by_number service sound caller handle held.0 held.1 in record {
+  has = λ alive. subst (HasNumber service.store) held.2 (numbers.0 (sym (ap (is_alive service.store) held.1) ∙ alive));
+  lives = λ has. ap (is_alive service.store) held.1 ∙ numbers.1 (subst (HasNumber service.store) (sym held.2) has);
+}
+
+-- what a store tells of a lease's number
+abbrev pub TellsOf : Option Reading → Store → Type 0
+TellsOf None m = Unit {0}
+TellsOf (Some l) m = (HasNumber m l.creation) ⊎ (HasNumber m l.creation → ⊥)
+
+tells_of : (lease : Option Reading) (caller : ℕ) (a : Attributes) (n : ℕ) (m : Store) (kept : Result Attributes Status) → RecordsStated lease caller a n m kept → TellsOf lease m
+tells_of None caller a n m kept records = tt
+tells_of (Some l) caller a n m kept (inl there) = inl there.0
+tells_of (Some l) caller a n m kept (inr gone) = inr gone.0
+
+pub made_tells : (lease : Option Reading) (caller : ℕ) (a : Attributes) (n id : ℕ) (m : Store) → IsMade (RecordsStated lease caller a n) caller id m → TellsOf lease m
+made_tells lease caller a n id m made = tells_of lease caller a n m (Ok made.0) made.1
+
+pub unmade_tells : (lease : Option Reading) (caller : ℕ) (a : Attributes) (n : ℕ) (m : Store) (why : NotMade) → IsUnmade (RecordsStated lease caller a n) why m → TellsOf lease m
+unmade_tells lease caller a n m (unmade.Refused status) is = tells_of lease caller a n m (Err status) is
+unmade_tells lease caller a n m (unmade.Failed why) is = tells_of lease caller a n m (Ok is.0) is.1
+
+-- a derivation's operation with the key of that number
+pub record IsOneFor (m : Store) (lease : Option Reading) (o other : HandleOperation) : Type 0 where
+  pub part : part_of derivation_part o ≡ part_of derivation_part other
+  pub lives : LivesAs lease m (key_of_operation o)
+
+pub one_for : (m : Store) (o : HandleOperation) (lease : Option Reading) → IsLeaseOf lease (key_of_operation o) → TellsOf lease m → (other : HandleOperation) × (IsSoundOperation m o → other ≡ o) × IsOneFor m lease other o
+one_for m o None none tells = (o, (λ sound. refl), record { part = refl; lives = none })
+one_for m o (Some l) held tells =
+    let x = chosen m o l held.0 held.1 held.2 tells in (rekeyed x.0 o, x.1, record { part = part_rekeyed derivation_part x.0 o; lives = x.2 })
+
+module _ (service : Service) (caller handle : ℕ) (a : Attributes) (w : DerivationWork) (derives : part_of derivation_part (operation_of service caller handle) ≡ Active w)
+    (passes : output_key_refusal (part_of derivation_part (operation_of service caller handle)) a ≡ None) (lease : Option Reading) (lives : LivesAs lease service.store (key_of_operation (operation_of service caller handle)))
     (bytes : List ℕ) (short : length bytes ≡ min (stated_bytes a) 1025) where
   abbrev Records : Result Attributes Status → Type 0
   Records = RecordsStated lease caller a (length bytes) service.store
@@ -48,17 +84,13 @@ module _ (service : Service) (caller handle : ℕ) (a : Attributes) (w : Derivat
     pub steps : Steps (derived_with kept)
 
   found : (kept : Result Attributes Status) → Records kept → IsDue kept ⊎ IsLost kept
-  found kept records = by lease of records
+  found kept records = by lease lives records
     where
-      by : (l : Option Reading) → IsLeaseOf l key → RecordsStated l caller a (length bytes) service.store kept → IsDue kept ⊎ IsLost kept
+      by : (l : Option Reading) → LivesAs l service.store key → RecordsStated l caller a (length bytes) service.store kept → IsDue kept ⊎ IsLost kept
       by None none is = inl (record { recorded = as_stated kept is; steps = due (ap (is_alive service.store) none) kept is })
-      by (Some l) held (inl there) =
-          let numbers = by_number service sound caller handle held.0 held.1 in
-          inl (record { recorded = as_stated kept there.1; steps = due (ap (is_alive service.store) held.1 ∙ numbers.1 (subst (HasNumber service.store) (sym held.2) there.0)) kept there.1 })
+      by (Some l) held (inl there) = inl (record { recorded = as_stated kept there.1; steps = due (held.lives there.0) kept there.1 })
       by (Some l) held (inr gone) =
-          let numbers = by_number service sound caller handle held.0 held.1 in
-          let dead : has_live_key service caller handle ≡ false = ap (is_alive service.store) held.1 ∙ no_test (is_alive service.store (Some held.0)) (λ alive. gone.0 (subst (HasNumber service.store) held.2 (numbers.0 alive))) in
-          inr (record { invalid = gone.1; steps = outputs.lost service caller handle a w derives dead })
+          inr (record { invalid = gone.1; steps = outputs.lost service caller handle a w derives (no_test (has_live_key service caller handle) (λ alive. gone.0 (held.has alive))) })
 
   -- no creation is refused as one that takes too many bytes
   fails_so : (why : Status) → recorded_of service.store caller a (stated_bytes a) ≡ Err why → underived w why ≡ fails why

@@ -1,7 +1,6 @@
 -- Results tell of a device that failed exactly where their marks do.
 use Rattle.std.proofs.Common.{Bool, Err, List, MatchOption, MatchResult, None, Ok, Option, Result, Some, ap, bytes_eq, drop, false, if◌then◌else◌, inl, inr, length, nat_lt, refl, subst, sym, take, true, ℕ, ◌-◌, ◌∙◌, ◌≡◌}
-use Rattle.callers.proofs.Common.{Active, After, AnswersReply, Attributes, Authenticating, Ciphering, Computed, Copy, DataCorrupt, DerivationWork, Deriving, ElementCall, Failed, HandleCall, HandleOperation, HardwareFailure, Hashing, Held, InError, Inactive, InvalidHandle, InvalidSignature, IsOfElement, IsRefused, IsUncopied, IsUnmade, Key, KeyUse, KeyedCall, KeylessSetup, NoFault, NotComputed, NotCopied, NotDestroyed, NotMade, OnAead, OnCipher, OnDerivation, OnHash, OnMac, OnStore, Operation, Output, Random, RecordsCopy, RecordsStated, Refused, RefusesPlainly, Reply, Sealing, Service, Status, StorageFailure, Store, Work, aead_part, all_rows, answers_plainly, cipher_part, class_rows, computed_by, computed_unless, created_unless, derivation_key_rows, derivation_part, derived_key_refused, done, exhausted, export_rows, failure_in, failure_marked, failure_told, first_row, given, goes_on, hash_part, key_refused, key_step_rows, mac_part, mark_computed, mark_of, mark_uncopied, mark_undestroyed, mark_unmade, next_derived, on_part, output_key_rows, part_of, recorded_refused, refusal_without_key, refuses_plainly, reply_unless, room_rows, set_up, spoiled, stated_bytes, not_computed_status, status_uncopied, status_undestroyed, status_unmade, stepped_by, tag_bytes, taken_from, there_rows, unless_failed, use_refusal, without}
-use Rattle.std.specs.Result.{is_ok}
+use Rattle.callers.proofs.Common.{Active, aead_part, After, all_rows, answers_plainly, AnswersReply, Attributes, Authenticating, bytes_of_key, cipher_part, Ciphering, class_rows, Computed, computed_by, computed_unless, Copy, created_unless, DataCorrupt, derivation_key_rows, derivation_part, DerivationWork, derived_key_refused, Deriving, done, ElementCall, exhausted, export_rows, Failed, failure_in, failure_marked, failure_told, first_row, given, goes_on, HandleCall, HandleOperation, HardwareFailure, hash_part, Hashing, Held, Inactive, InError, InvalidHandle, InvalidSignature, is_ok, IsOfElement, IsRefused, IsUncopied, IsUnmade, Key, key_refused, key_step_rows, KeyedCall, KeylessSetup, KeyUse, mac_part, mark_computed, mark_of, mark_uncopied, mark_undestroyed, mark_unmade, next_derived, NoFault, not_computed_status, NotComputed, NotCopied, NotDestroyed, NotMade, on_part, OnAead, OnCipher, OnDerivation, OnHash, OnMac, OnStore, Operation, Output, output_key_rows, part_of, Random, recorded_refused, RecordsCopy, RecordsStated, refusal_without_key, Refused, refuses_plainly, RefusesPlainly, Reply, reply_unless, room_rows, Sealing, Service, set_up, spoiled, stated_bytes, Status, status_uncopied, status_undestroyed, status_unmade, stepped_by, StorageFailure, Store, tag_bytes, taken_from, there_rows, unless_failed, use_refusal, without, Work}
 use Rattle.std.specs.FinMap as map
 use Rattle.alg_encoding.specs.Encoding.{is_concrete}
 use Rattle.slot_table.specs.Lent as lent
@@ -11,7 +10,6 @@ use Rattle.service_calls.specs.declared.handle_calls.KeylessSetup.TheVariants as
 use Rattle.service_calls.specs.declared.store_calls.KeyedCall.TheVariants as call
 use Rattle.alg_encoding.specs.declared.table.Class.TheVariants as class
 use Rattle.store_model.specs.Aeads as aeads
-use Rattle.store_model.specs.Prelude.{bytes_of_key}
 use Rattle.store_model.specs.Ciphers as ciphers
 use Rattle.store_model.specs.Macs as macs
 use Rattle.store_model.proofs.Derivations.{derivation_is_step}

@@ -4,6 +4,7 @@ use Rattle.callers.proofs.Common.{Attributes, Caller, CreatesKey, Entry, FaultMa
 use Rattle.psa_status.specs.Rows.{◌>>=◌}
 use Rattle.store_core.specs.declared.creating.NotMade.TheVariants as unmade
 use Rattle.store_core.specs.declared.creating.Unkept.TheVariants as unkept
+use Rattle.callers.proofs.KeyReplies.{Gives, refusal_gives}
 use Rattle.callers.proofs.KeySizes.{few_or_many, few_recorded}
 use Rattle.callers.proofs.Owned.{failed_own, stored_own}
 use Rattle.callers.proofs.Readying.{random_there}
@@ -21,14 +22,22 @@ module _ (store : Store) (caller : ℕ) (a : Attributes) where
     store_is (Ok kept) = refl
     store_is (Err status) = refl
 
-    reply_is : (kept : Result Attributes Status) → (generated store caller random n kept).reply ≡ (created_unless store caller kept (random n)).reply
-    reply_is (Ok kept) = refl
-    reply_is (Err status) = refl
+    -- whatever its bytes are
+    reply_is : (bytes : List ℕ) (kept : Result Attributes Status) → (generated store caller random n kept).reply ≡ (created_unless store caller kept bytes).reply
+    reply_is bytes (Ok kept) = refl
+    reply_is bytes (Err status) = refl
 
     -- what is never recorded, its bytes are no matter
     pub no_matter : (kept : Result Attributes Status) (bytes : List ℕ) → ((k : Attributes) → kept ≡ Ok k → ⊥) → created_unless store caller kept (random n) ≡ created_unless store caller kept bytes
     no_matter (Ok k) bytes none = absurd (none k refl)
     no_matter (Err status) bytes none = refl
+
+-- so it replies
+pub generation_replies : (service : Service) (caller : ℕ) (a : Attributes) (bytes : List ℕ) → first_row (stated_bits_rows a) ≡ None → length bytes ≡ stated_bytes a → (kept : Result Attributes Status) → RecordsStated None caller a (length bytes) service.store kept →
+    (plain_step service caller (OnStore (Generate a))).reply ≡ (created_unless service.store caller kept bytes).reply
+generation_replies service caller a bytes whole long kept records =
+    ap (λ k. (generated service.store caller (next_random service caller) (stated_bytes a) k).reply) (whole_bytes service.store caller a whole ∙ sym (records ∙ ap (recorded_of service.store caller a) long))
+    ∙ reply_is service.store caller a (next_random service caller) (stated_bytes a) bytes kept
 
 -- and bits that say none draw nothing
 pub no_bytes_drawn : (a : Attributes) → (first_row (stated_bits_rows a) ≡ None → ⊥) → DrawsNone (Generate a)
@@ -37,6 +46,11 @@ no_bytes_drawn a refused store caller random = by (first_row (stated_bits_rows a
     by : (o : Option Status) → first_row (stated_bits_rows a) ≡ o → (step store caller random (Generate a)).drawn ≡ 0
     by None none = absurd (refused none)
     by (Some status) some = ap (λ o. (generated store caller random (stated_bytes a) (unless o (stated_bytes a) >>= (λ bytes. recorded_of store caller a bytes))).drawn) some
+
+-- and are refused
+pub no_bytes_give : (service : Service) (caller : ℕ) (a : Attributes) (s : Status) → first_row (stated_bits_rows a) ≡ Some s → Gives (Err s) (serve service caller (OnStore (Generate a)) Plain).reply
+no_bytes_give service caller a s some =
+    subst (λ o. Gives (Err s) (generated service.store caller (next_random service caller) (stated_bytes a) (unless o (stated_bytes a) >>= (λ bytes. recorded_of service.store caller a bytes))).reply) (sym some) (refusal_gives s)
 
 -- THE CREATION
 
@@ -56,11 +70,7 @@ module _ {D A C : Type 0} (w : World D A C) (n : ℕ) (old : Caller D A C) (r : 
         ap (λ q. (plain_step service old.number q).service.store) asks
         ∙ (ap (λ k. (generated service.store old.number (next_random service old.number) (stated_bytes a) k).store) (whole_bytes service.store old.number a whole ∙ sym stated)
         ∙ (store_is service.store old.number a (next_random service old.number) (stated_bytes a) kept ∙ ap (λ (o : Outcome). o.store) (same start is h on tells kept stated)));
-    answers = λ start is h on tells kept records.
-        let service = replay start h in let stated = recorded_so service kept records in
-        ap (λ q. (plain_step service old.number q).reply) asks
-        ∙ (ap (λ k. (generated service.store old.number (next_random service old.number) (stated_bytes a) k).reply) (whole_bytes service.store old.number a whole ∙ sym stated)
-        ∙ (reply_is service.store old.number a (next_random service old.number) (stated_bytes a) kept ∙ ap (λ (o : Outcome). o.reply) (same start is h on tells kept stated)));
+    answers = λ start is h on tells kept records. ap (λ q. (plain_step (replay start h) old.number q).reply) asks ∙ generation_replies (replay start h) old.number a bytes whole long kept records;
   }
     where
       keeps : is_destruction request ≡ false
@@ -88,10 +98,6 @@ few_for a = by (nat_lt 1024 (stated_bytes a)) refl
     by : (many : Bool) → nat_lt 1024 (stated_bytes a) ≡ many → words_used (if many then 0 else stated_bytes a) ≤ 256
     by true e = omega arith
     by false e = let few : stated_bytes a ≤ 1024 = grind (arith, nat_tests) in omega arith
-
--- of too many none is
-pub none_for : (a : Attributes) → 1024 < stated_bytes a → drawn_for a ≡ 0
-none_for a many = let is : nat_lt 1024 (stated_bytes a) ≡ true = grind (arith, nat_tests) in ap (λ b. if b then 0 else stated_bytes a) is
 
 module _ (service : Service) (caller : ℕ) (a : Attributes) (whole : first_row (stated_bits_rows a) ≡ None) (count : ℕ) (counts : count ≡ stated_bytes a) (operations : List HandleOperation) (place next : ℕ)
     (sound : IsSound service) (last : caller ≤ 16) (own : IsOwnPart operations place (own_of service caller)) where

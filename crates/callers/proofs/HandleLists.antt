@@ -1,7 +1,6 @@
 -- One handle of four is another, with its operation and its lease.
 use Rattle.std.proofs.Common.{Bool, List, None, Some, [], ap, arith, cond, count_by, eqb, false, get_or, inl, inr, length, length-set, not, refl, set, subst, suc, sym, true, zero, ℕ, ◌&&◌, ◌++◌, ◌+◌, ◌<◌, ◌==◌, ◌∙◌, ◌∷◌, ◌≡◌, ◌≢◌, ◌≤◌}
-use Rattle.callers.proofs.Common.{AreOperations, ArePairs, OperationHandle, HandleOperation, Inactive, IsOperation, Pairs, Reading, busy, eqb_tells, is_active, is_inactive, lease_pair, leases_of, names, nat_tests, pairs_of, same, sum_by-append, sum_by-cons, without_pair}
-use Rattle.std.proofs.lemmas.List.{get_or-set_same, get_or-set_other}
+use Rattle.callers.proofs.Common.{AreOperations, ArePairs, busy, eqb_tells, get_or-set_other, get_or-set_same, HandleOperation, Inactive, is_active, is_inactive, IsOperation, lease_pair, leases_of, names, nat_tests, OperationHandle, Pairs, pairs_of, Reading, same, sum_by-append, sum_by-cons, without_pair}
 
 -- OPERATIONS
 

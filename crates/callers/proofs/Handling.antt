@@ -1,12 +1,12 @@
 -- A caller after a call on a handle: a ranked turn, the handle's operation changed, and its lease given back where that is over.
 use Rattle.std.proofs.Common.{All, Bool, List, None, Option, Result, Some, [], ap, arith, cond, count_by, false, length, length-append, not, refl, subst, sym, true, vec_capacity, ℕ, ◌*◌, ◌++◌, ◌+◌, ◌-◌, ◌<◌, ◌==◌, ◌∙◌, ◌∷◌, ◌≡◌, ◌≤◌, Ok}
-use Rattle.callers.proofs.Common.{After, All-push, AnswersReply, AreOperations, ArePairs, Caller, Entry, FaultMark, HandleOperation, Held, IsAnswered, IsAt, IsBack, IsCalled, IsChanged, IsClear, IsEntered, IsReady, KnowsBefore, Legal, MayGoBack, Output, Pairs, RandomStream, Reading, Request, Status, TellsFailure, View, World, applied, buffer_after, drawn_from, entries_of, is_inactive, lease_pair, leases_of, names, operation_at, outcome_of, pairs_of, with_operation_at, without_pair, HandleCall, IsRanked, OnHandle, Plain, SameButPass, Service, is_alive, key_of_operation, model_step, next_bytes, operation_of, replay, serve, stepped_by, steps_are, Abort, Done, Inactive, done, draws_none, ends}
+use Rattle.callers.proofs.Common.{Abort, After, All-push, AnswersReply, applied, AreOperations, ArePairs, buffer_after, Caller, Done, done, drawn_from, draws_none, ends, entries_of, Entry, FaultMark, HandleCall, HandleOperation, Handles, Held, Inactive, is_inactive, IsAnswered, IsAsked, IsAt, IsBack, IsCalled, IsChanged, IsClear, IsEntered, IsRanked, IsReady, KeyCreation, known_more, known_told, KnowsAlive, KnowsBefore, KnowsTold, lease_pair, leases_of, Legal, MayGoBack, model_step, names, next_bytes, OnHandle, operation_at, operation_of, outcome_of, Output, Pairs, pairs_of, Plain, RandomStream, Reading, rekeyed, replay, Request, SameButPass, serve, Served, Service, Status, stepped_by, steps_are, TellsFailure, View, with_operation_at, without_pair, World}
 use Rattle.std.specs.Option.{IfSome}
 use Rattle.service_calls.specs.declared.steps.Step.{Step}
-use Rattle.callers.specs.declared.handles.Handles.{Handles}
 use Rattle.callers.proofs.HandleLists.{busy_put, few, named_alike, once, tally-cons, without}
 use Rattle.callers.proofs.Journeys.{called_then, called}
-use Rattle.callers.proofs.Readying.{applied_answered, applied_there, ready, IsKnown, known, outcome_is}
+use Rattle.callers.proofs.Readying.{applied_answered, applied_there, ready, known, outcome_is}
+use Rattle.callers.proofs.Supposed.{at_store, by_none}
 
 pub names_few : (i k : ℕ) (own : Pairs) → names i k own ≤ length own
 names_few i k [] = omega arith
@@ -113,7 +113,7 @@ module _ {D A C : Type 0} (w : World D A C) {n : ℕ} {old : Caller D A C} (r : 
     made = called_by lease back
 
     -- the one-thread service applies this to the handle
-    module _ (first : 1 ≤ handle) (last : handle ≤ 4) (applies : KnowsBefore w (λ service. outcome_of service e ≡ applied service old.number handle after) before e) where
+    module _ (first : 1 ≤ handle) (last : handle ≤ 4) (applies : KnowsTold w (λ service. outcome_of service e ≡ applied service old.number handle after) before e) where
       -- the handle doesn't wait for its end more than it did, but by one: so its end must have counted
       pub handled_ready : IsAt w new.pass → Legal w (entries_of new.pass.me.0.seen) → settled.number ≡ old.number → settled.spent ≡ old.spent → settled.stream ≡ drawn_from old.stream after.drawn → settled.stream.place ≤ old.stream.place + 64 * n →
           t + 1 + 2 * once (not (is_inactive after.operation)) ≤ n + 2 * once (not (is_inactive (operation_at r.operations handle))) → IsReady w 0 new
@@ -134,9 +134,9 @@ module _ {D A C : Type 0} (w : World D A C) {n : ℕ} {old : Caller D A C} (r : 
             spent = let a = l.spent in let t = r.spent in omega (arith, spent);
           })
 
-      pub handled_answered : (result : Result Output Status) (shown given : List ℕ) → TellsFailure w result mark → AnswersReply result after.reply → given ≡ buffer_after shown after.reply →
-          IsAnswered w old.pass.me.0 new.pass.me.0 request rank result shown given
-      handled_answered = applied_answered w n old new r (spent_by lease) request mark rank before e made first last after applies
+    pub handled_answered : KnowsBefore w (λ service. (outcome_of service e).reply ≡ after.reply) before e → (result : Result Output Status) (shown given : List ℕ) → TellsFailure w result mark → AnswersReply result after.reply → given ≡ buffer_after shown after.reply →
+        IsAnswered w old.pass.me.0 new.pass.me.0 request rank result shown given
+    handled_answered = applied_answered w n old new r (spent_by lease) request mark rank before e made after
 
 -- WHERE IT ASKED FOR ITS TURN FIRST
 
@@ -145,7 +145,7 @@ pub still_stand : {D A C : Type 0} {old asking : Caller D A C} {operations : Lis
 still_stand {operations = operations} same stand = subst (λ h. AreOperations h.list.items operations) (sym same.handles) stand
 
 module _ {D A C : Type 0} (w : World D A C) (old asking : Caller D A C) (r : IsReady w 4 old) {request : Request} {rank handle : ℕ} {alive : Bool}
-    (ranked : IsRanked old.pass.me.0 asking.pass.me.0 request Plain rank old.pass.me.0.holding (KnowsBefore w (λ service. alive ≡ is_alive service.store (key_of_operation (operation_of service old.number handle)))))
+    (ranked : IsRanked old.pass.me.0 asking.pass.me.0 request Plain rank old.pass.me.0.holding (KnowsAlive w old handle alive))
     (same : SameButPass old asking) (handles : Handles) (stream : RandomStream) (after : After Held) {lease : Option Reading} (changed : IsChanged asking.handles.list.items handles.list.items r.operations handle after.operation lease) where
   abbrev settled : Caller D A C
   settled = record asking { handles = handles; stream = stream }
@@ -158,12 +158,19 @@ module _ {D A C : Type 0} (w : World D A C) (old asking : Caller D A C) (r : IsR
 
   -- the one-thread service applies this to the handle
   module _ (new : Caller D A C) (back : IsBack lease settled new) (first : 1 ≤ handle) (last : handle ≤ 4) {call : HandleCall} (asks : request ≡ OnHandle handle call)
-      (serves : (service : Service) → IsKnown w old r.operations service → alive ≡ is_alive service.store (key_of_operation (operation_of service old.number handle)) → serve service old.number (OnHandle handle call) Plain ≡ applied service old.number handle after) where
-    applies : KnowsBefore w (λ service. outcome_of service ranked.after.entry ≡ applied service old.number handle after) ranked.before ranked.after.entry
+      (stepping : HandleOperation → After Held) (is_after : stepping (operation_at r.operations handle) ≡ after) (alike : (key : Option KeyCreation) (o : HandleOperation) → (stepping (rekeyed key o)).reply ≡ (stepping o).reply)
+      (serves : (service : Service) → IsAsked service old.number handle (operation_at r.operations handle) old.stream alive → serve service old.number (OnHandle handle call) Plain ≡ applied service old.number handle (stepping (operation_of service old.number handle))) where
+    asked : KnowsBefore w (λ service. IsAsked service old.number handle (operation_at r.operations handle) old.stream alive) ranked.before ranked.after.entry
+    asked = ranked.after.decided 4 r
+
+    served_as : (service : Service) → outcome_of service ranked.after.entry ≡ serve service old.number (OnHandle handle call) Plain
+    served_as service = let i = ranked.after.entered in outcome_is service ranked.after.entry old.number (OnHandle handle call) Plain (i.by ∙ r.number) (i.call_is ∙ asks) i.mark_is
+
+    applies : KnowsTold w (λ service. outcome_of service ranked.after.entry ≡ applied service old.number handle after) ranked.before ranked.after.entry
     applies start is tells =
-        let i = ranked.after.entered in
-        outcome_is (replay start ranked.before) ranked.after.entry old.number (OnHandle handle call) Plain (i.by ∙ r.number) (i.call_is ∙ asks) i.mark_is
-        ∙ serves (replay start ranked.before) (known w 4 old asking r 1 request Plain rank ranked.before ranked.after.entry (called i) start is tells) (ranked.after.decided start is tells)
+        let service = replay start ranked.before in
+        let mine = (known w 4 old asking r 1 request Plain rank ranked.before ranked.after.entry (called ranked.after.entered) start is tells).own.each handle first last in
+        served_as service ∙ (serves service (known_told asked start is tells) ∙ ap (applied service old.number handle) (ap stepping mine ∙ is_after))
 
     pub asked_ready : IsAt w new.pass → Legal w (entries_of new.pass.me.0.seen) → stream ≡ drawn_from old.stream after.drawn → stream.place ≤ old.stream.place + 256 → IsReady w 0 new
     asked_ready at legal drawn words =
@@ -171,15 +178,15 @@ module _ {D A C : Type 0} (w : World D A C) (old asking : Caller D A C) (r : IsR
         (let f = few (not (is_inactive after.operation)) in omega arith)
 
     pub asked_answered : (result : Result Output Status) (shown given : List ℕ) → TellsFailure w result Plain → AnswersReply result after.reply → given ≡ buffer_after shown after.reply → IsAnswered w old.pass.me.0 new.pass.me.0 request rank result shown given
-    asked_answered = handled_answered w r settled new (called ranked.after.entered) (same_out ranked.after.entered) same.spares after change back first last applies
+    asked_answered = handled_answered w r settled new (called ranked.after.entered) (same_out ranked.after.entered) same.spares after change back
+        (known_more (λ service a. ap (λ (s : Served). s.reply) (served_as service ∙ serves service a) ∙ (ap (λ o. (stepping o).reply) a.operation_is ∙ (alike a.key (operation_at r.operations handle) ∙ ap (λ (x : After Held). x.reply) is_after))) asked)
 
 -- a step is the one-thread service's
-pub steps : {D A C : Type 0} {w : World D A C} {old : Caller D A C} {operations : List HandleOperation} (service : Service) (handle : ℕ) (step : Step) (room : ℕ) {alive : Bool} {stream : RandomStream} → stream ≡ old.stream → 1 ≤ handle → handle ≤ 4 →
-    IsKnown w old operations service → alive ≡ is_alive service.store (key_of_operation (operation_of service old.number handle)) →
-    serve service old.number (OnHandle handle (model_step step room)) Plain ≡ applied service old.number handle (stepped_by alive (next_bytes stream 16) (operation_at operations handle) (model_step step room))
-steps {old = old} service handle step room same first last k lives =
-    steps_are service old.number handle step room
-    ∙ (λ i. applied service old.number handle (stepped_by (sym lives i) ((k.random 16 ∙ ap (λ x. next_bytes x 16) (sym same)) i) (k.own.each handle first last i) (model_step step room)))
+pub steps : (service : Service) (caller handle : ℕ) (step : Step) (room : ℕ) {operation : HandleOperation} {alive : Bool} {old stream : RandomStream} → stream ≡ old → IsAsked service caller handle operation old alive →
+    serve service caller (OnHandle handle (model_step step room)) Plain ≡ applied service caller handle (stepped_by alive (next_bytes stream 16) (operation_of service caller handle) (model_step step room))
+steps service caller handle step room same a =
+    steps_are service caller handle step room
+    ∙ (λ i. applied service caller handle (stepped_by (sym a.lives i) ((a.random 16 ∙ ap (λ x. next_bytes x 16) (sym same)) i) (operation_of service caller handle) (model_step step room)))
 
 -- WHERE IT ABORTED
 
@@ -192,15 +199,16 @@ module _ {D A C : Type 0} (w : World D A C) {n : ℕ} {old : Caller D A C} (r : 
     {handle : ℕ} {lease : Option Reading} (change : IsChanged old.handles.list.items settled.handles.list.items r.operations handle Inactive lease) (back : IsBack lease settled new)
     (first : 1 ≤ handle) (last : handle ≤ 4) (asks : request ≡ OnHandle handle Abort) where
   aborts : KnowsBefore w (λ service. outcome_of service e ≡ applied service old.number handle (ends done)) before e
-  aborts start is tells = outcome_is (replay start before) e old.number (OnHandle handle Abort) Plain (i.by ∙ r.number) (i.call_is ∙ asks) i.mark_is
+  aborts = known_more (λ service x. outcome_is service e old.number (OnHandle handle Abort) Plain (i.by ∙ r.number) (i.call_is ∙ asks) i.mark_is)
+      (at_store w n old settled r 1 request Plain rank before e (called i) (by_none w n old settled r 1 request Plain rank before e (called i)))
 
   -- an operation that is over has no end that counted
   aborted_ready : 2 ≤ n + 2 * once (not (is_inactive (operation_at r.operations handle))) → IsAt w new.pass → Legal w (entries_of new.pass.me.0.seen) → settled.number ≡ old.number → settled.stream ≡ old.stream → settled.spent ≡ old.spent → IsReady w 0 new
   aborted_ready pays at legal number stream spent =
-      handled_ready w r settled new (called i) (same_out i) spares (ends done) change back first last aborts at legal number spent (stream ∙ draws_none old.stream) (let p = ap (λ s. s.place) stream in omega arith) (omega (arith, pays))
+      handled_ready w r settled new (called i) (same_out i) spares (ends done) change back first last (known_told aborts) at legal number spent (stream ∙ draws_none old.stream) (let p = ap (λ s. s.place) stream in omega arith) (omega (arith, pays))
 
   pub aborted_answered : (buffer : List ℕ) → IsAnswered w old.pass.me.0 new.pass.me.0 request rank (Ok Done) buffer buffer
-  aborted_answered buffer = handled_answered w r settled new (called i) (same_out i) spares (ends done) change back first last aborts (Ok Done) buffer buffer (λ start is. refl) refl refl
+  aborted_answered buffer = handled_answered w r settled new (called i) (same_out i) spares (ends done) change back (known_more (λ service same. ap (λ (s : Served). s.reply) same) aborts) (Ok Done) buffer buffer (λ start is. refl) refl refl
 
 -- by whether the operation was inactive, and the abort has counted
 pub aborted : {D A C : Type 0} (w : World D A C) {old : Caller D A C} (r : IsReady w 0 old) (settled new : Caller D A C) {request : Request} {rank : ℕ} {before : List Entry} {e : Entry} {handle : ℕ} {lease : Option Reading} →

@@ -1,6 +1,6 @@
 -- A caller after a call that gives a derivation a key.
 use Rattle.std.proofs.Common.{Bool, Err, List, None, Ok, Option, Some, ap, arith, false, if◌then◌else◌, is_some, not, refl, subst, sym, true, ℕ, ◌-◌, ◌∙◌, ◌∷◌, ◌≡◌, ◌≤◌}
-use Rattle.callers.proofs.Common.{Active, After, Caller, DecidesAfter, DerivationWork, Deriving, Entry, FaultMark, HandleOperation, Held, HoldsLease, InError, Inactive, InputKey, IsAnswered, IsAt, IsChanged, IsEntered, IsLent, IsReady, IsRefused, KeyCreation, KeyUse, KnowsBefore, Legal, OnHandle, Operation, Own, Pairs, Plain, Reading, ReadsKey, RefusesKeyAt, Request, Service, Status, TakesKeyAt, World, applied, bytes_of, counted, creation_of, derivation_part, done, entries_of, fails, failure_marked, first_row, goes_on, handle_step, id_read, is_alive, is_inactive, key_of_operation, key_refused, key_step_rows, lease_pair, mark_of, may_change_keys, on_part, operation_at, operation_of, outcome_of, own_of, part_of, refusal, replay, serve, takes_key, unless_failed, use_refusal, with_key, with_operation, with_own}
+use Rattle.callers.proofs.Common.{Active, After, applied, bytes_of, Caller, counted, creation_of, DecidesAfter, derivation_part, DerivationWork, Deriving, done, entries_of, Entry, fails, failure_marked, FaultMark, first_row, goes_on, handle_step, HandleOperation, Held, HoldsLease, id_read, Inactive, InError, InputKey, is_alive, is_inactive, IsAnswered, IsAsked, IsAt, IsChanged, IsEntered, IsLent, IsReady, IsRefused, key_refused, key_step_rows, KeyCreation, KeyUse, known_more, KnowsBefore, lease_pair, Legal, mark_of, may_change_keys, on_part, OnHandle, Operation, operation_at, operation_of, outcome_of, Own, own_of, Pairs, part_of, Plain, RandomStream, Reading, ReadsKey, refusal, RefusesKeyAt, rekeyed, replay, Request, serve, Service, Status, takes_key, TakesKeyAt, unless_failed, use_refusal, with_key, with_operation, with_own, World}
 use Rattle.psa_status.specs.declared.Status.TheVariants as status
 use Rattle.service_calls.specs.declared.output.Output.TheVariants as output
 use Rattle.store_model.specs.KeyUse as held
@@ -10,9 +10,10 @@ use Rattle.callers.proofs.HandleLists.{busy_put, once}
 use Rattle.callers.proofs.Failing.{refused_tells, use_plainly}
 use Rattle.callers.proofs.Journeys.{called}
 use Rattle.callers.proofs.Looking.{AreSpares}
-use Rattle.callers.proofs.Readying.{IsKnown, known, outcome_is, own_there}
+use Rattle.callers.proofs.Readying.{outcome_is, own_there}
 use Rattle.callers.proofs.SettingUp.{undrawn_own}
-use Rattle.callers.proofs.Storing.{decided_after}
+use Rattle.callers.proofs.Rekeying.{part_rekeyed, part_replies}
+use Rattle.callers.proofs.Supposed.{by_after, quiet_leaves, standing}
 
 -- THE ONE-THREAD SERVICE
 
@@ -54,11 +55,8 @@ module _ {D A C : Type 0} (w : World D A C) (old new : Caller D A C) (r : IsRead
   unchanging : may_change_keys e.call ≡ false
   unchanging = ap may_change_keys (i.call_is ∙ asks)
 
-  mine : KnowsBefore w (λ service. operation_of service old.number handle ≡ operation_at r.operations handle) before e
-  mine start is tells = (known w 4 old new r 1 request mark rank before e (called i) start is tells).own.each handle first last
-
-  takes_there : KnowsBefore w (λ service. TakesKeyAt (operation_of service old.number handle) step wanted) before e
-  takes_there start is tells = subst (λ o. TakesKeyAt o step wanted) (sym (mine start is tells)) takes
+  takes_there : (service : Service) → operation_of service old.number handle ≡ operation_at r.operations handle → TakesKeyAt (operation_of service old.number handle) step wanted
+  takes_there service mine = subst (λ o. TakesKeyAt o step wanted) (sym mine) takes
 
   -- the handle waits for its end as it did
   begun : (after : After Held) (applies : KnowsBefore w (λ service. outcome_of service e ≡ applied service old.number handle after) before e) {lent : ℕ} → after.drawn ≡ 0 → is_inactive after.operation ≡ false → new.number ≡ old.number → new.stream ≡ old.stream → new.spent ≡ old.spent →
@@ -80,11 +78,10 @@ module _ {D A C : Type 0} (w : World D A C) (old new : Caller D A C) (r : IsRead
     given_key = goes_on (record { key = Some (record { id = id; number = lease.creation }); work = Deriving (with_key takes.w (bytes_of lease.buffer)) }) done
 
     gives_key : KnowsBefore w (λ service. outcome_of service e ≡ applied service old.number handle given_key) before e
-    gives_key start is tells =
-        let service = replay start before in
-        let lent = decided_after w (IsLent (use_refusal wanted) id lease) before e unchanging decided start is tells in
+    gives_key = known_more (λ service x.
         outcome_is service e old.number (OnHandle handle (InputKey step id)) Plain (i.by ∙ r.number) (i.call_is ∙ asks) (i.mark_is ∙ plain)
-        ∙ input_lent service old.number handle step id wanted (takes_there start is tells) lease takes.w (ap (part_of derivation_part) (mine start is tells) ∙ takes.derives) lent
+        ∙ input_lent service old.number handle step id wanted (takes_there service x.holds.0) lease takes.w (ap (part_of derivation_part) x.holds.0 ∙ takes.derives) x.holds.1)
+        (standing w 4 old new r 1 request mark rank before e (called i) first last (by_after w (IsLent (use_refusal wanted) id lease) (quiet_leaves w before e unchanging) decided))
 
     pub given_ready : HoldsLease old.handles.list.items new.handles.list.items r.operations handle given_key.operation lease → own ≡ lease_pair lease ∷ old.pass.me.0.holding → new.number ≡ old.number → new.stream ≡ old.stream →
         new.spent ≡ old.spent → AreSpares 1 old.spares new.spares → IsAt w new.pass → Legal w (entries_of new.pass.me.0.seen) → IsReady w 0 new
@@ -96,10 +93,10 @@ module _ {D A C : Type 0} (w : World D A C) (old new : Caller D A C) (r : IsRead
   -- it isn't
   module _ (why : Status) (marked : mark ≡ mark_of why) (decided : DecidesAfter w (IsRefused (use_refusal wanted) id why) before e) where
     refuses_key : KnowsBefore w (λ service. outcome_of service e ≡ applied service old.number handle (fails why)) before e
-    refuses_key start is tells =
-        let service = replay start before in
+    refuses_key = known_more (λ service x.
         outcome_is service e old.number (OnHandle handle (InputKey step id)) (mark_of why) (i.by ∙ r.number) (i.call_is ∙ asks) (i.mark_is ∙ marked)
-        ∙ input_refused service old.number handle step id wanted (takes_there start is tells) why (decided_after w (IsRefused (use_refusal wanted) id why) before e unchanging decided start is tells)
+        ∙ input_refused service old.number handle step id wanted (takes_there service x.holds.0) why x.holds.1)
+        (standing w 4 old new r 1 request mark rank before e (called i) first last (by_after w (IsRefused (use_refusal wanted) id why) (quiet_leaves w before e unchanging) decided))
 
     pub failed_ready : IsChanged old.handles.list.items new.handles.list.items r.operations handle InError None → own ≡ old.pass.me.0.holding → new.number ≡ old.number → new.stream ≡ old.stream → new.spent ≡ old.spent →
         AreSpares 0 old.spares new.spares → IsAt w new.pass → Legal w (entries_of new.pass.me.0.seen) → IsReady w 0 new
@@ -108,7 +105,7 @@ module _ {D A C : Type 0} (w : World D A C) (old new : Caller D A C) (r : IsRead
     pub failed_answered : (buffer : List ℕ) → IsAnswered w old.pass.me.0 new.pass.me.0 request rank (Err why) buffer buffer
     failed_answered =
         begun_answered w old new r i first last (fails why) refuses_key (Err why)
-        (λ start is. let d = decided start is in refused_tells (use_refusal wanted) (use_plainly wanted) id why d.0 d.2 ∙ ap failure_marked (sym marked)) (refl, refl) (λ buffer. refl)
+        (λ start is. let d = decided start is in refused_tells (use_refusal wanted) (use_plainly wanted) id why d.model d.holds ∙ ap failure_marked (sym marked)) (refl, refl) (λ buffer. refl)
 
 -- the call reads its key, in whatever history it is entered
 pub reads_secret : {D A C : Type 0} (w : World D A C) (old : Caller D A C) (r : IsReady w 4 old) (request : Request) (handle step id : ℕ) (wanted : KeyUse) → 1 ≤ handle → handle ≤ 4 → request ≡ OnHandle handle (InputKey step id) →
@@ -133,10 +130,12 @@ refusal_draws_none alive o step = refused_drawn None (part_of derivation_part o)
     by w None = refl
     by w (Some status) = refl
 
-pub untimely : {D A C : Type 0} {w : World D A C} {old : Caller D A C} {operations : List HandleOperation} (service : Service) (handle step id : ℕ) {alive : Bool} → 1 ≤ handle → handle ≤ 4 → RefusesKeyAt (operation_at operations handle) step →
-    IsKnown w old operations service → alive ≡ is_alive service.store (key_of_operation (operation_of service old.number handle)) →
-    serve service old.number (OnHandle handle (InputKey step id)) Plain ≡ applied service old.number handle (key_refused alive (operation_at operations handle) step)
-untimely {old = old} service handle step id first last refuses k lives =
-    let mine = k.own.each handle first last in
-    inputs.untimely service old.number handle step id (subst (λ o. RefusesKeyAt o step) (sym mine) refuses)
-    ∙ (λ i. applied service old.number handle (key_refused (sym lives i) (mine i) step))
+pub untimely : (service : Service) (caller handle step id : ℕ) {operation : HandleOperation} {stream : RandomStream} {alive : Bool} → RefusesKeyAt operation step → IsAsked service caller handle operation stream alive →
+    serve service caller (OnHandle handle (InputKey step id)) Plain ≡ applied service caller handle (key_refused alive (operation_of service caller handle) step)
+untimely service caller handle step id {operation = operation} refuses k =
+    inputs.untimely service caller handle step id (λ w derives due. refuses w (sym (ap (part_of derivation_part) k.operation_is ∙ part_rekeyed derivation_part k.key operation) ∙ derives) due)
+    ∙ (λ i. applied service caller handle (key_refused (sym k.lives i) (operation_of service caller handle) step))
+
+-- and replies so, whatever its key's identifier
+pub untimely_alike : (alive : Bool) (step : ℕ) (key : Option KeyCreation) (o : HandleOperation) → (key_refused alive (rekeyed key o) step).reply ≡ (key_refused alive o step).reply
+untimely_alike alive step key o = part_replies key o Deriving derivation_part alive (λ w. unless_failed (first_row (key_step_rows w step)) (goes_on w done))

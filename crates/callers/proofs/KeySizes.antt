@@ -1,6 +1,6 @@
 -- A creation of more than 1,024 bytes, which the code makes of 1,025, is refused.
-use Rattle.std.proofs.Common.{Bool, Err, None, Ok, Option, Result, Some, [], ap, arith, bit_and, cond, false, inl, inr, min, nat_le, nat_lt, not, refl, sym, true, ℕ, ◌&&◌, ◌*◌, ◌<◌, ◌==◌, ◌||◌, ◌∙◌, ◌∷◌, ◌≡◌, ◌≤◌, ◌⊎◌}
-use Rattle.callers.proofs.Common.{Attributes, InvalidArgument, NotSupported, Status, Store, few_bytes, file_rows, first_row, has_secure_element, nat_tests, recorded, recorded_of, room_for_key_rows, unless}
+use Rattle.std.proofs.Common.{Bool, Err, Ok, Option, Some, [], ap, arith, bit_and, cond, false, inl, inr, min, nat_le, nat_lt, not, refl, sym, true, ℕ, ◌&&◌, ◌*◌, ◌<◌, ◌==◌, ◌||◌, ◌∙◌, ◌∷◌, ◌≡◌, ◌≤◌, ◌⊎◌}
+use Rattle.callers.proofs.Common.{Attributes, InvalidArgument, NotSupported, Status, Store, few_bytes, first_row, has_secure_element, nat_tests, recorded, recorded_of, room_for_key_rows, unless}
 use Rattle.psa_status.specs.Rows.{◌>>=◌}
 use Rattle.key_attributes.specs.Checks.{checked, filled, permits_size, is_lifetime, is_stated_id, is_key_type}
 use Rattle.policy_rules.specs.Narrow.{after_rules}
@@ -35,16 +35,11 @@ many_refused a n driver h =
     (cond (not (is_key_type a.key_type.0)) (Some NotSupported) (cond (not permitted) (Some InvalidArgument) rest))))) (filled a n)) (too_many a.key_type.0 n h)
     ∙ refused_by (not (is_lifetime a.lifetime.0 driver)) (not (is_stated_id a.lifetime.0 a.id.0)) (not (bit_and a.policy.usage.0 0xffff00f8 == 0)) (not (is_key_type a.key_type.0)) rest (filled a n)
 
-same_after : (o : Option Status) (a : Attributes) (f g : Attributes → Result Attributes Status) → f a ≡ g a → (unless o a >>= f) ≡ (unless o a >>= g)
-same_after None a f g e = e
-same_after (Some status) a f g e = refl
-
 many_alike : (store : Store) (caller : ℕ) (a : Attributes) (n m : ℕ) → 1024 < n → 1024 < m → recorded_of store caller a n ≡ recorded_of store caller a m
 many_alike store caller a n m h k =
     let driver = has_secure_element store in
     let after = λ (kept : Attributes). after_rules store.settings.labels kept >>= (λ last. unless (first_row (room_for_key_rows store caller last)) last) in
-    same_after (first_row (file_rows store a)) a (λ stated. checked stated n driver >>= after) (λ stated. checked stated m driver >>= after)
-    (ap (λ r. r >>= after) (many_refused a n driver h ∙ sym (many_refused a m driver k)))
+    ap (λ r. r >>= after) (many_refused a n driver h ∙ sym (many_refused a m driver k))
 
 pub few_or_many : (n : ℕ) (many : Bool) → nat_lt 1024 n ≡ many → (n ≤ 1024) ⊎ (1024 < n)
 few_or_many n true e = inr (grind (arith, nat_tests))

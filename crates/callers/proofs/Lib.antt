@@ -1,8 +1,11 @@
 mod Common
 pub mod Journeys
 pub mod HandleLists
+pub mod Known
 pub mod Owned
 pub mod Readying
+pub mod Supposed
+pub mod Rekeying
 pub mod Failing
 pub mod Asking
 pub mod Storing

@@ -1,8 +1,7 @@
 -- A caller has what a turn asks that looks for a key.
 use Rattle.std.proofs.Common.{All, List, None, Option, Some, [], ap, arith, length, length-append, nat_lt, refl, subst, sym, vec_capacity, vec_len, ℕ, ◌++◌, ◌+◌, ◌<◌, ◌∙◌, ◌∷◌, ◌≡◌, ◌≤◌}
-use Rattle.callers.proofs.Common.{All-pop, All-push, Buffer, Caller, OperationHandle, HasRoomForLease, IsClear, IsReady, Reading, World, count_by-le-length, leases_of, pairs_of}
+use Rattle.callers.proofs.Common.{All-pop, All-push, Buffer, Caller, count_by-le-length, HasRoomForLease, IsClear, IsReady, leases_of, OperationHandle, option_to_list, pairs_of, Reading, World}
 use Rattle.std.specs.Global.{Vec}
-use Rattle.std.specs.Option.{option_to_list}
 
 few_leases : (cells : List OperationHandle) → length (leases_of cells) ≤ length cells
 few_leases [] = omega arith

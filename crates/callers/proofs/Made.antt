@@ -1,11 +1,10 @@
 -- What the one-thread service makes of a call that creates a key.
 use Rattle.std.proofs.Common.{Err, List, None, Ok, Option, Result, Some, ap, refl, subst, sym, ℕ, ◌∙◌, ◌≡◌}
-use Rattle.callers.proofs.Common.{Attributes, IsMade, IsRefused, IsUncopied, IsUnmade, KeyId, NotCopied, NotMade, Plain, Reply, Request, Service, Status, Store, created_unless, mark_of, mark_uncopied, mark_unmade, plain_step, serve, spoiled, status_uncopied, status_unmade, there_rows}
+use Rattle.callers.proofs.Common.{Attributes, created_unless, IsMade, IsRefused, IsUncopied, IsUnmade, KeyId, mark_of, mark_uncopied, mark_unmade, NotCopied, NotMade, Plain, plain_step, Reply, Request, serve, Service, spoiled, Status, status_of, status_uncopied, status_unmade, Store, there_rows}
 use Rattle.std.specs.FinMap as map
 use Rattle.psa_status.specs.declared.Status.TheVariants as status
 use Rattle.service_calls.specs.declared.output.Output.TheVariants as output
 use Rattle.store_model.specs.Call as model
-use Rattle.store_core.specs.Prelude.{status_of}
 use Rattle.store_core.specs.declared.copying.NotCopied.TheVariants as uncopied
 use Rattle.store_core.specs.declared.creating.NotMade.TheVariants as unmade
 use Rattle.store_core.specs.declared.creating.Unkept.TheVariants as unkept

@@ -1,22 +1,22 @@
 -- A caller after a call that creates a key of derived bytes.
 use Rattle.std.proofs.Common.{All, Bool, Err, List, None, Ok, Option, Result, Some, [], ap, arith, count_by, false, get_or, if◌then◌else◌, inr, length, min, nat_lt, not, refl, subst, sym, take, take_all, true, vec_capacity, ℕ, ◌&&◌, ◌+◌, ◌-◌, ◌<◌, ◌==◌, ◌∙◌, ◌∷◌, ◌≡◌, ◌≤◌}
-use Rattle.callers.proofs.Common.{Active, AreOperations, Attributes, Caller, OperationHandle, CreatesKey, DecidesBefore, DerivationWork, Deriving, HandleOperation, InError, Inactive, InsufficientData, IsAnswered, IsAt, IsBack, IsCalled, IsChanged, IsClear, IsCreated, IsDerivedKey, IsMade, IsOperation, IsOwn, IsOwnPart, IsReady, IsReplied, IsSound, IsUnmade, KeyId, KnowsBefore, LeavesAllKeys, Legal, NotMade, OnHandle, Operation, OutputKey, Pairs, Plain, RandomStream, Reading, RecordsStated, Reply, Request, Served, Service, Status, Store, Success, TellsFailure, World, applied, created, derivation_part, derived_key_refused, draws_none, entries_of, exhausted, fails, first_row, first_row-back, goes_on, has_live_key, is_active, is_alive, is_destruction, key_of_operation, leases_of, mark_unmade, next_derived, on_part, operation_at, operation_of, outcome_of, output_key_refusal, output_key_rows, outputs, own_of, part_of, plain_step, refused_by, replay, serve, start_of, stated_bytes, status_unmade, taken_from, unless_failed, with_drawn, with_operation, with_operation_at, without}
-use Rattle.std.proofs.lemmas.List.{get_or-set_same, length-take-le, set-set}
-use Rattle.callers.specs.HandleCalls.{FailsDerivation, without_bytes}
+use Rattle.callers.proofs.Common.{Active, applied, AreOperations, Attributes, Caller, created, CreatesKey, DecidesBefore, derivation_part, DerivationWork, derived_key_refused, Deriving, draws_none, entries_of, Entry, exhausted, fails, FailsDerivation, FaultMark, first_row, first_row-back, get_or-set_same, goes_on, HandleOperation, has_live_key, Inactive, InError, InsufficientData, is_active, is_destruction, IsAnswered, IsAsked, IsAt, IsBack, IsCalled, IsChanged, IsClear, IsCreated, IsDerivedKey, IsMade, IsOperation, IsOwn, IsOwnPart, IsReady, IsReplied, IsSound, IsUnmade, key_of_operation, KeyCreation, KeyId, known_more, known_told, KnowsBefore, KnowsTold, leases_of, LeavesAllKeys, Legal, length-take-le, mark_unmade, next_derived, NotMade, on_part, OnHandle, Operation, operation_at, operation_of, OperationHandle, outcome_of, output_key_refusal, output_key_rows, OutputKey, outputs, own_of, Pairs, part_of, Plain, plain_step, RandomStream, Reading, RecordsStated, refused_by, rekeyed, replay, Reply, Request, serve, Served, Service, set-set, start_of, stated_bytes, Status, status_unmade, Store, Success, taken_from, TellsFailure, unless_failed, with_drawn, with_operation, with_operation_at, without, without_bytes, World}
 use Rattle.service_calls.specs.declared.output.Output.TheVariants as output
 use Rattle.store_model.specs.Prelude.{given as given_bytes}
 use Rattle.derivation_states.specs.KeySteps as alone
 use Rattle.callers.proofs.Asking.{leased_key, unleased_key}
 use Rattle.callers.proofs.Beginning.{at_handle}
 use Rattle.callers.proofs.HandleLists.{busy_put, cell_at, named_alike, names_is, names_lease, once, tally-cons}
-use Rattle.callers.proofs.Deriving.{IsLeaseOf, derived_leaves, derived_replies, made_owns, underived_key}
-use Rattle.callers.proofs.Handling.{handled_answered, handled_ready, made as turned_back}
+use Rattle.callers.proofs.Deriving.{IsLeaseOf, IsOneFor, LivesAs, TellsOf, lease_lives, made_tells, one_for, unmade_tells, derived_leaves, derived_replies, made_owns, underived_key}
+use Rattle.callers.proofs.Handling.{handled_answered, handled_ready}
 use Rattle.callers.proofs.Inputting.{derives_busy, refused_drawn}
 use Rattle.callers.proofs.Made.{made_gives}
 use Rattle.callers.proofs.Owned.{set_operation, set_own, sound_replay}
-use Rattle.callers.proofs.Readying.{IsKnown, answered, known, outcome_is, own_there, ready}
+use Rattle.callers.proofs.Readying.{answered, known, outcome_is, own_there, ready}
 use Rattle.callers.proofs.SettingUp.{undrawn_own}
 use Rattle.callers.proofs.Storing.{decided_known}
+use Rattle.callers.proofs.Rekeying.{part_rekeyed, part_replies}
+use Rattle.callers.proofs.Supposed.{DecidesAt, IsSupposed, by_before, supposed}
 
 -- the lease of a handle is of its operation's key
 lease_of : (cell : OperationHandle) (operation : HandleOperation) → IsOperation cell operation → (is_active operation ≡ false → cell.lease ≡ None) → IsLeaseOf cell.lease (key_of_operation operation)
@@ -120,8 +120,8 @@ module _ {D A C : Type 0} (w : World D A C) (old : Caller D A C) (r : IsReady w 
     abbrev pub passes_here : output_key_refusal (part_of derivation_part (operation_of service old.number handle)) a ≡ None
     passes_here = ap (λ o. output_key_refusal (part_of derivation_part o) a) mine ∙ given.passes
 
-    abbrev pub lease_here : IsLeaseOf lease (key_of_operation (operation_of service old.number handle))
-    lease_here = subst (λ o. IsLeaseOf lease (key_of_operation o)) (sym mine) given.of
+    abbrev pub lease_here : LivesAs lease service.store (key_of_operation (operation_of service old.number handle))
+    lease_here = lease_lives service sound old.number handle lease (subst (λ o. IsLeaseOf lease (key_of_operation o)) (sym mine) given.of)
 
   pub derived_creates : CreatesKey w old.pass.me.0 old.number request (RecordsStated lease old.number a (length bytes)) bytes
   derived_creates = record {
@@ -129,20 +129,27 @@ module _ {D A C : Type 0} (w : World D A C) (old : Caller D A C) (r : IsReady w 
     leaves = λ start is h on tells kept records.
         let service = replay start h in let sound = sound_replay start (start_of is.settings is.found) h is.is (r.sound start is) on.signed in let mine = (own_there w 4 old r start h is on tells).each handle first last in
         ap (λ q. (plain_step service old.number q).service.store) asks
-        ∙ derived_leaves service old.number handle a given.work sound (derives_here service sound mine) (passes_here service sound mine) lease (lease_here service sound mine) bytes given.short given.front kept records;
+        ∙ derived_leaves service old.number handle a given.work (derives_here service sound mine) (passes_here service sound mine) lease (lease_here service sound mine) bytes given.short given.front kept records;
     answers = λ start is h on tells kept records.
         let service = replay start h in let sound = sound_replay start (start_of is.settings is.found) h is.is (r.sound start is) on.signed in let mine = (own_there w 4 old r start h is on tells).each handle first last in
         ap (λ q. (plain_step service old.number q).reply) asks
-        ∙ derived_replies service old.number handle a given.work sound (derives_here service sound mine) (passes_here service sound mine) lease (lease_here service sound mine) bytes given.short given.front kept records;
+        ∙ derived_replies service old.number handle a given.work (derives_here service sound mine) (passes_here service sound mine) lease (lease_here service sound mine) bytes given.short given.front kept records;
   }
 
   abbrev Records : Store → Result Attributes Status → Type 0
   Records = RecordsStated lease old.number a (length bytes)
 
+  -- a service with the derivation, by a store of which P holds
+  one_there : (now : Caller D A C) (turns : ℕ) (mark : FaultMark) (rank : ℕ) (before : List Entry) (e : Entry) (c : IsCalled old.pass.me.0 now.pass.me.0 turns request mark rank before e) (P : Store → Type 0) → ((m : Store) → P m → TellsOf lease m) → DecidesAt w P before e →
+      KnowsBefore w (IsSupposed w 4 old now r turns request mark rank before e c first last (λ o m. IsOneFor m lease o (operation_at r.operations handle) × P m)) before e
+  one_there now turns mark rank before e c P tells decides =
+      supposed w 4 old now r turns request mark rank before e c first last (λ o m. IsOneFor m lease o (operation_at r.operations handle) × P m) decides
+      (λ m p. let x = one_for m (operation_at r.operations handle) lease given.of (tells m p) in (x.0, x.1, (x.2, p)))
+
   module _ (new : Caller D A C) (rank : ℕ) where
     -- THE KEY IS MADE
     module _ (id : KeyId) (c : IsCreated old.pass.me.0 new.pass.me.0 request Plain rank (DecidesBefore w (IsMade Records old.number id.0))) where
-      made : KnowsBefore w (λ service. IsMade Records old.number id.0 service.store) c.before c.entry
+      made : KnowsTold w (λ service. IsMade Records old.number id.0 service.store) c.before c.entry
       made = decided_known w (IsMade Records old.number id.0) c.before c.entry c.decided
 
       pub output_ready : IsChanged old.handles.list.items new.handles.list.items r.operations handle after None → new.number ≡ old.number → new.stream ≡ old.stream → new.spares ≡ old.spares → new.spent ≡ old.spent →
@@ -155,7 +162,7 @@ module _ {D A C : Type 0} (w : World D A C) (old : Caller D A C) (r : IsReady w 
             own = λ start is tells.
                 let service = replay start c.before in
                 let k = known w 4 old new r 2 request Plain rank c.before c.entry c.called start is tells in let mine = k.own.each handle first last in let there = made start is tells in let own = own_of service old.number in
-                let owns = made_owns service old.number handle a given.work k.sound (derives_here service k.sound mine) (passes_here service k.sound mine) lease (lease_here service k.sound mine) bytes given.short there.0 there.1 in
+                let owns = made_owns service old.number handle a given.work (derives_here service k.sound mine) (passes_here service k.sound mine) lease (lease_here service k.sound mine) bytes given.short there.0 there.1 in
                 let same : own_of (outcome_of service c.entry).service old.number ≡ with_drawn (with_operation own handle after) 0 =
                 ap (λ (s : Served). own_of s.service old.number) (outcome_is service c.entry old.number (OnHandle handle (OutputKey a)) Plain (c.called.by ∙ r.number) (c.called.call_is ∙ asks) c.called.mark_is)
                 ∙ (ap (λ (s : Service). own_of s old.number) owns ∙ (set_own service (created service.store old.number there.0 (next_derived given.work (stated_bytes a))).store old.number _ k.sound r.last
@@ -176,36 +183,32 @@ module _ {D A C : Type 0} (w : World D A C) (old : Caller D A C) (r : IsReady w 
 
       pub output_answered : (buffer : List ℕ) → IsAnswered w old.pass.me.0 new.pass.me.0 request rank (Ok (output.Identifier id)) buffer buffer
       output_answered buffer =
-          answered w 4 old new r 2 request Plain rank c.before c.entry c.called (Ok (output.Identifier id)) buffer buffer (λ start is. refl) (λ start is tells told.
-          let service = replay start c.before in
-          let k = known w 4 old new r 2 request Plain rank c.before c.entry c.called start is tells in let mine = k.own.each handle first last in
+          answered w 4 old new r 2 request Plain rank c.before c.entry c.called (Ok (output.Identifier id)) buffer buffer (λ start is. refl) (known_more (λ service x told.
+          let one = x.holds.0 in
           let gives = made_gives service old.number (OnHandle handle (OutputKey a)) Records bytes
-          (derived_replies service old.number handle a given.work k.sound (derives_here service k.sound mine) (passes_here service k.sound mine) lease (lease_here service k.sound mine) bytes given.short given.front) id (made start is tells) in
+          (derived_replies service old.number handle a given.work (one.part ∙ given.derives) (ap (λ own. output_key_refusal own a) one.part ∙ given.passes) lease one.lives bytes given.short given.front) id x.holds.1 in
           subst (λ (s : Served). IsReplied (Ok (output.Identifier id)) buffer buffer s.reply)
           (sym (outcome_is service c.entry old.number (OnHandle handle (OutputKey a)) Plain (c.called.by ∙ r.number) (c.called.call_is ∙ asks) c.called.mark_is)) (gives.answers, gives.unwritten buffer))
+          (one_there new 2 Plain rank c.before c.entry c.called (IsMade Records old.number id.0) (made_tells lease old.number a (length bytes) id.0) (by_before w c.decided)))
 
     -- NONE IS MADE: the derivation is in error, and its lease goes back
     module _ (settled : Caller D A C) (why : NotMade) (c : IsCreated old.pass.me.0 settled.pass.me.0 request (mark_unmade why) rank (DecidesBefore w (IsUnmade Records why))) (back_lease : Option Reading)
         (spares : settled.spares ≡ old.spares) (change : IsChanged old.handles.list.items settled.handles.list.items r.operations handle InError back_lease) (back : IsBack back_lease settled new) where
-      fails_there : (turns : ℕ) (made : IsCalled old.pass.me.0 new.pass.me.0 turns request (mark_unmade why) rank c.before c.entry) →
-          KnowsBefore w (λ service. outcome_of service c.entry ≡ applied service old.number handle (fails (status_unmade why))) c.before c.entry
-      fails_there turns made start is tells =
-          let service = replay start c.before in
-          let k = known w 4 old new r turns request (mark_unmade why) rank c.before c.entry made start is tells in let mine = k.own.each handle first last in
-          outcome_is service c.entry old.number (OnHandle handle (OutputKey a)) (mark_unmade why) (made.by ∙ r.number) (made.call_is ∙ asks) made.mark_is
-          ∙ underived_key service old.number handle a given.work k.sound (derives_here service k.sound mine) (passes_here service k.sound mine) lease (lease_here service k.sound mine) bytes given.short why (decided_known w (IsUnmade Records why) c.before c.entry c.decided start is tells)
-
       applies : KnowsBefore w (λ service. outcome_of service c.entry ≡ applied service old.number handle (fails (status_unmade why))) c.before c.entry
-      applies = fails_there _ (turned_back w r settled new c.called c.holding spares (fails (status_unmade why)) change back)
+      applies = known_more (λ service x.
+          let one = x.holds.0 in
+          outcome_is service c.entry old.number (OnHandle handle (OutputKey a)) (mark_unmade why) (c.called.by ∙ r.number) (c.called.call_is ∙ asks) c.called.mark_is
+          ∙ underived_key service old.number handle a given.work (one.part ∙ given.derives) (ap (λ own. output_key_refusal own a) one.part ∙ given.passes) lease one.lives bytes given.short why x.holds.1)
+          (one_there settled 2 (mark_unmade why) rank c.before c.entry c.called (IsUnmade Records why) (λ m. unmade_tells lease old.number a (length bytes) m why) (by_before w c.decided))
 
       pub unmade_ready : settled.number ≡ old.number → settled.stream ≡ old.stream → settled.spent ≡ old.spent → IsAt w new.pass → Legal w (entries_of new.pass.me.0.seen) → IsReady w 0 new
       unmade_ready number stream spent at legal =
-          handled_ready w r settled new c.called c.holding spares (fails (status_unmade why)) change back first last applies at legal number spent (stream ∙ draws_none old.stream) (let p = ap (λ (s : RandomStream). s.place) stream in omega arith)
+          handled_ready w r settled new c.called c.holding spares (fails (status_unmade why)) change back first last (known_told applies) at legal number spent (stream ∙ draws_none old.stream) (let p = ap (λ (s : RandomStream). s.place) stream in omega arith)
           (let o = ap (λ x. once (not x)) (derives_busy (operation_at r.operations handle) given.work given.derives) in omega arith)
 
       pub unmade_answered : TellsFailure w (Err (status_unmade why)) (mark_unmade why) → (buffer : List ℕ) → IsAnswered w old.pass.me.0 new.pass.me.0 request rank (Err (status_unmade why)) buffer buffer
       unmade_answered failure buffer =
-          handled_answered w r settled new c.called c.holding spares (fails (status_unmade why)) change back first last applies (Err (status_unmade why)) buffer buffer failure (refl, refl) refl
+          handled_answered w r settled new c.called c.holding spares (fails (status_unmade why)) change back (known_more (λ service same. ap (λ (s : Served). s.reply) same) applies) (Err (status_unmade why)) buffer buffer failure (refl, refl) refl
 
 -- A KEY THAT THE DERIVATION REFUSES
 
@@ -220,13 +223,15 @@ output_draws_none alive o a = refused_drawn None (part_of derivation_part o) ali
     by w None = taken (nat_lt w.capacity (stated_bytes a)) w (stated_bytes a) (given_bytes (next_derived w (stated_bytes a)))
     by w (Some status) = refl
 
-pub undue : {D A C : Type 0} {w : World D A C} {old : Caller D A C} {operations : List HandleOperation} (service : Service) (handle : ℕ) (a : Attributes) {alive : Bool} → 1 ≤ handle → handle ≤ 4 →
-    (output_key_refusal (part_of derivation_part (operation_at operations handle)) a ≡ None → ⊥) → IsKnown w old operations service → alive ≡ is_alive service.store (key_of_operation (operation_of service old.number handle)) →
-    serve service old.number (OnHandle handle (OutputKey a)) Plain ≡ applied service old.number handle (derived_key_refused alive (operation_at operations handle) a)
-undue {old = old} service handle a first last refuses k lives =
-    let mine = k.own.each handle first last in
-    outputs.refused service old.number handle a (λ none. refuses (sym (ap (λ o. output_key_refusal (part_of derivation_part o) a) mine) ∙ none))
-    ∙ (λ i. applied service old.number handle (derived_key_refused (sym lives i) (mine i) a))
+pub undue : (service : Service) (caller handle : ℕ) (a : Attributes) {operation : HandleOperation} {stream : RandomStream} {alive : Bool} → (output_key_refusal (part_of derivation_part operation) a ≡ None → ⊥) → IsAsked service caller handle operation stream alive →
+    serve service caller (OnHandle handle (OutputKey a)) Plain ≡ applied service caller handle (derived_key_refused alive (operation_of service caller handle) a)
+undue service caller handle a {operation = operation} refuses k =
+    outputs.refused service caller handle a (λ none. refuses (sym (ap (λ own. output_key_refusal own a) (ap (part_of derivation_part) k.operation_is ∙ part_rekeyed derivation_part k.key operation)) ∙ none))
+    ∙ (λ i. applied service caller handle (derived_key_refused (sym k.lives i) (operation_of service caller handle) a))
+
+-- and replies so, whatever its key's identifier
+pub undue_alike : (alive : Bool) (a : Attributes) (key : Option KeyCreation) (o : HandleOperation) → (derived_key_refused alive (rekeyed key o) a).reply ≡ (derived_key_refused alive o a).reply
+undue_alike alive a key o = part_replies key o Deriving derivation_part alive (λ w. alone.derived_key_bytes w a)
 
 refuses_row : (w : DerivationWork) (a : Attributes) (status : Status) → first_row (output_key_rows w a) ≡ Some status → status ≡ Success → ⊥
 refuses_row w a = refused_by (λ status. status ≡ Success → ⊥) (output_key_rows w a) (λ on is. cc, (λ on is. cc, (λ on is. cc, (λ on is. cc, tt))))

@@ -1,13 +1,13 @@
 -- What is known of the one-thread service at a caller's entry, and the caller after the call.
 use Rattle.std.proofs.Common.{All, List, Result, [], ap, arith, length, refl, subst, sym, vec_capacity, ℕ, ◌*◌, ◌++◌, ◌+◌, ◌^◌, ◌∙◌, ◌∷◌, ◌≡◌, ◌≤◌}
-use Rattle.callers.proofs.Common.{After, AnswersReply, AreOperations, ArePairs, Caller, Entry, FaultMark, GoesOn, HandleOperation, Held, IsAnswered, IsAt, IsCalled, IsClear, IsOwnPart, IsReady, IsReplied, IsSound, IsToldTo, KnowsBefore, Legal, Output, Request, Served, Service, Settings, Starts, Status, TURNS, TellsFailure, TellsReply, World, applied, buffer_after, busy, entries_of, leases_of, leaves_settings, next_bytes, next_random, outcome_of, own_of, random_bytes, replay, serve, start_of, with_operation_at, words_used}
+use Rattle.callers.proofs.Common.{After, AnswersReply, AreOperations, ArePairs, Caller, Entry, FaultMark, GoesOn, HandleOperation, Held, IsAnswered, IsAt, IsCalled, IsClear, IsOwnPart, IsReady, IsReplied, IsSound, IsToldTo, KnowsBefore, KnowsTold, known_more, Legal, Output, Request, Served, Service, Settings, Starts, Status, TURNS, TellsFailure, TellsReply, World, applied, buffer_after, busy, entries_of, leases_of, leaves_settings, next_bytes, next_random, outcome_of, own_of, random_bytes, replay, serve, start_of, with_operation_at, words_used}
 use Rattle.callers.proofs.Journeys.{own_after, own_on, told_front}
 use Rattle.callers.proofs.Owned.{applied_own, sound_replay}
 
 pub outcome_is : (service : Service) (e : Entry) (n : ℕ) (request : Request) (mark : FaultMark) → e.caller ≡ n → e.call ≡ request → e.mark ≡ mark → outcome_of service e ≡ serve service n request mark
 outcome_is service e n request mark by called marked = λ i. serve service (by i) (called i) (marked i)
 
-settings_stay : (service : Service) (h : List Entry) → (replay service h).store.settings ≡ service.store.settings
+pub settings_stay : (service : Service) (h : List Entry) → (replay service h).store.settings ≡ service.store.settings
 settings_stay service [] = refl
 settings_stay service (e ∷ h) = settings_stay (outcome_of service e).service h ∙ (leaves_settings service e.caller e.call e.mark).0
 
@@ -16,7 +16,7 @@ module _ {D A C : Type 0} (w : World D A C) where
   Ready = IsReady w
 
   abbrev Knows : (Service → Type 0) → List Entry → Entry → Type 0
-  Knows = KnowsBefore w
+  Knows = KnowsTold w
 
   -- the service before the caller's entry has what the caller has of its own
   pub record IsKnown (old : Caller D A C) (operations : List HandleOperation) (service : Service) : Type 0 where
@@ -54,7 +54,7 @@ module _ {D A C : Type 0} (w : World D A C) where
         }
 
     -- what is answered
-    pub answered : (result : Result Output Status) (shown given : List ℕ) → TellsFailure w result mark → Knows (λ service. TellsReply w service old.number call → IsReplied result shown given (outcome_of service e).reply) before e →
+    pub answered : (result : Result Output Status) (shown given : List ℕ) → TellsFailure w result mark → KnowsBefore w (λ service. TellsReply w service old.number call → IsReplied result shown given (outcome_of service e).reply) before e →
         IsAnswered w old.pass.me.0 new.pass.me.0 call rank result shown given
     answered result shown given failure replied = record {
       turns = turns;
@@ -63,8 +63,14 @@ module _ {D A C : Type 0} (w : World D A C) where
       entry = e;
       called = c;
       failure = failure;
-      replied = λ start is tells told. replied start is tells (subst (λ n. TellsReply w (replay start before) n call) r.number told);
+      replied = known_more (λ service replies told. replies (subst (λ n. TellsReply w service n call) r.number told)) replied;
     }
+
+    -- by a call on a handle that replies as this does
+    pub applied_answered : (after : After Held) → KnowsBefore w (λ service. (outcome_of service e).reply ≡ after.reply) before e → (result : Result Output Status) (shown given : List ℕ) → TellsFailure w result mark →
+        AnswersReply result after.reply → given ≡ buffer_after shown after.reply → IsAnswered w old.pass.me.0 new.pass.me.0 call rank result shown given
+    applied_answered after replies result shown given failure answers buffer =
+        answered result shown given failure (known_more (λ service same told. (subst (AnswersReply result) (sym same) answers, buffer ∙ ap (buffer_after shown) (sym same))) replies)
 
     -- what a call changes of a caller beside its pass
     pub record IsMoved (changed : List HandleOperation) (slack : ℕ) : Type 0 where
@@ -116,10 +122,3 @@ module _ {D A C : Type 0} (w : World D A C) where
           let k = known start is tells in
           subst (λ (s : Served). IsOwnPart (with_operation_at r.operations handle after.operation) new.stream.place (own_of s.service old.number)) (sym (applies start is tells))
           (applied_own (replay start before) old.number handle after r.operations old.stream.place new.stream.place k.sound r.last k.own r.stand.count first last place)
-
-      pub applied_answered : (result : Result Output Status) (shown given : List ℕ) → TellsFailure w result mark → AnswersReply result after.reply → given ≡ buffer_after shown after.reply →
-          IsAnswered w old.pass.me.0 new.pass.me.0 call rank result shown given
-      applied_answered result shown given failure answers buffer =
-          answered result shown given failure (λ start is tells told.
-          let same : after.reply ≡ (outcome_of (replay start before) e).reply = sym (ap (λ (s : Served). s.reply) (applies start is tells)) in
-          (subst (AnswersReply result) same answers, buffer ∙ ap (buffer_after shown) same))

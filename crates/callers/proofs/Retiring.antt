@@ -1,11 +1,9 @@
 -- A caller that ends, handle by handle.
 use Rattle.std.proofs.Common.{All, List, None, Option, Some, [], ap, arith, get_or, length, refl, set, subst, suc, sym, zero, ℕ, ◌++◌, ◌+◌, ◌-◌, ◌<◌, ◌∙◌, ◌∷◌, ◌≡◌, ◌≤◌}
-use Rattle.callers.proofs.Common.{All-head, All-tail, AreIdle, AreOperations, ArePairs, Caller, OperationHandle, Entry, Inactive, IsAt, IsBack, IsChanged, IsOperation, IsReady, IsRetired, IsRetiring, Legal, MakesNoCall, MayGoBack, Pairs, Reading, View, World, begins_itself, entries_of, is_active, leases_of, operation_at, pairs_of, with_operation_at}
+use Rattle.callers.proofs.Common.{All-head, All-tail, AreIdle, AreOperations, ArePairs, begins_itself, Caller, entries_of, Entry, get_or-set_other, get_or-set_same, Handles, Inactive, is_active, IsAt, IsBack, IsChanged, IsOperation, IsRetired, IsRetiring, leases_of, Legal, MakesNoCall, MayGoBack, operation_at, OperationHandle, Pairs, pairs_of, Reading, View, with_operation_at, World}
 use Rattle.std.specs.Option.{IfSome}
-use Rattle.callers.specs.declared.handles.Handles.{Handles}
 use mathlib.Core.Logic.{dite}
 use native.Mathlib.Decide.{dec_lt}
-use Rattle.std.proofs.lemmas.List.{get_or-set_same, get_or-set_other}
 use Rattle.callers.proofs.Changing.{length_alike}
 use Rattle.callers.proofs.Handling.{left, may_go_back}
 use Rattle.callers.proofs.Journeys.{begins_through}
@@ -38,21 +36,7 @@ module _ {B : Type 0} where
   }
 
 module _ {D A C : Type 0} (w : World D A C) where
-  -- at its start nothing is wiped
-  pub begins : (c : Caller D A C) → IsReady w 0 c → IsRetiring w 0 c
-  begins c r = record {
-    at = r.at;
-    legal = r.legal;
-    operations = r.operations;
-    stand = r.stand;
-    wiped = λ handle low high. absurd (omega arith);
-    leases = r.leases;
-    five = r.five;
-    room = r.room;
-    turns = let a = r.turns in let b = r.spent in omega arith;
-  }
-
-  -- and at its end everything
+  -- at its end everything is wiped
   module _ (c : Caller D A C) (r : IsRetiring w 4 c) where
     each_idle : AreIdle c.handles.list.items
     each_idle = λ i d lt.

@@ -1,6 +1,6 @@
 -- A caller after a call on the store. For one that creates a key a slot is reserved first, and a ranked turn follows.
 use Rattle.std.proofs.Common.{Err, IfErr, IfOk, List, Ok, OnOk, Result, ap, arith, count_by, false, length, subst, sym, ℕ, ◌∙◌, ◌≡◌, ◌≤◌, None, Option, Some, [], refl, ◌+◌, ◌<◌, ◌==◌, ◌∷◌}
-use Rattle.callers.proofs.Common.{AreOperations, ArePairs, Call, Caller, DecidesAfter, DecidesBefore, Entry, FaultMark, IsAnswered, IsAt, IsCalled, IsOwnPart, IsRanked, IsReady, IsReplied, KnowsBefore, Legal, OnStore, Output, Random, RandomStream, Request, SameButPass, Served, Service, Status, TellsFailure, TellsReply, World, counted, drawn_from, draws_none, entries_of, leases_of, leaves_shared, may_change_keys, next_random, outcome_of, own_of, replay, replay_push, serve, step, words_used, Attributes, OperationHandle, CreatesKey, HasNoFilling, IsCreated, IsLater, Opened, Pairs, View, filling_pair, names, nat_tests, pairs_of, without_pair}
+use Rattle.callers.proofs.Common.{AreOperations, ArePairs, Call, Caller, DecidesBefore, Entry, FaultMark, IsAnswered, IsAt, IsCalled, IsOwnPart, IsRanked, IsReady, IsReplied, KnowsBefore, KnowsTold, known_more, Legal, OnStore, Output, Random, RandomStream, Request, SameButPass, Served, Service, Status, TellsFailure, TellsReply, World, drawn_from, draws_none, entries_of, leases_of, next_random, outcome_of, own_of, replay, serve, step, words_used, Attributes, OperationHandle, CreatesKey, HasNoFilling, IsCreated, IsLater, Opened, Pairs, View, filling_pair, names, nat_tests, pairs_of, without_pair}
 use Rattle.store_model.specs.Store as model
 use Rattle.slot_table.specs.Lent as lent
 use Rattle.callers.proofs.HandleLists.{first_named, once, tally-append, tally-cons, without}
@@ -9,6 +9,7 @@ use Rattle.callers.proofs.KeyReplies.{Gives}
 use Rattle.callers.proofs.Looking.{AreSpares, same_spares}
 use Rattle.callers.proofs.Owned.{undrawn_own}
 use Rattle.callers.proofs.Readying.{answered, known, outcome_is, ready}
+use Rattle.callers.proofs.Supposed.{DecidesAt, at_store, by_none}
 
 -- no such call draws
 abbrev pub DrawsNone : Call → Type 0
@@ -18,7 +19,7 @@ DrawsNone call = (store : model.Store) (caller : ℕ) (random : Random) → (ste
 module _ {D A C : Type 0} (w : World D A C) (old new : Caller D A C) (r : IsReady w 4 old) (turns : ℕ) (request : Request) (call : Call) (asks : request ≡ OnStore call) (mark : FaultMark) (rank : ℕ) (before : List Entry) (e : Entry)
     (c : IsCalled old.pass.me.0 new.pass.me.0 turns request mark rank before e) where
   abbrev Serves : (Served → Type 0) → Type 0
-  Serves P = KnowsBefore w (λ service. P (serve service old.number (OnStore call) mark)) before e
+  Serves P = KnowsTold w (λ service. P (serve service old.number (OnStore call) mark)) before e
 
   outcome : (service : Service) → outcome_of service e ≡ serve service old.number (OnStore call) mark
   outcome service = outcome_is service e old.number (OnStore call) mark (c.by ∙ r.number) (c.call_is ∙ asks) c.mark_is
@@ -54,8 +55,14 @@ module _ {D A C : Type 0} (w : World D A C) (old new : Caller D A C) (r : IsRead
   pub kept_answered : (result : Result Output Status) (shown given : List ℕ) → TellsFailure w result mark →
       KnowsBefore w (λ service. TellsReply w service old.number (OnStore call) → IsReplied result shown given (serve service old.number (OnStore call) mark).reply) before e → IsAnswered w old.pass.me.0 new.pass.me.0 request rank result shown given
   kept_answered result shown given failure replied =
-      answered w 4 old new r turns request mark rank before e c result shown given failure (λ start is tells told.
-      subst (λ (s : Served). IsReplied result shown given s.reply) (sym (outcome (replay start before))) (replied start is tells (subst (TellsReply w (replay start before) old.number) asks told)))
+      answered w 4 old new r turns request mark rank before e c result shown given failure
+      (known_more (λ service replies told. subst (λ (s : Served). IsReplied result shown given s.reply) (sym (outcome service)) (replies (subst (TellsReply w service old.number) asks told))) replied)
+
+  -- so it was decided, and a service by such a store replies so
+  pub decided_answered : {P : model.Store → Type 0} → DecidesAt w P before e → (result : Result Output Status) (shown given : List ℕ) → TellsFailure w result mark →
+      ((service : Service) → P service.store → IsReplied result shown given (serve service old.number (OnStore call) mark).reply) → IsAnswered w old.pass.me.0 new.pass.me.0 request rank result shown given
+  decided_answered decides result shown given failure replies =
+      kept_answered result shown given failure (known_more (λ service s told. replies service s.1) (at_store w 4 old new r turns request mark rank before e c decides))
 
 -- one turn, which draws nothing
 module _ {D A C : Type 0} (w : World D A C) (old new : Caller D A C) (r : IsReady w 4 old) {request : Request} (call : Call) (asks : request ≡ OnStore call) {mark : FaultMark} {rank : ℕ} {Decided : List Entry → Entry → Type 0}
@@ -77,27 +84,24 @@ module _ {D A C : Type 0} (w : World D A C) (old new : Caller D A C) (r : IsRead
       subst (λ n. IsOwnPart r.operations n (own_of (serve service old.number (OnStore call) mark).service old.number)) (sym (ap (λ (s : RandomStream). s.place) same.stream))
       (undrawn_own service old.number call mark r.operations old.stream.place k.sound r.last k.own (none service.store old.number (next_random service old.number))))
 
-  pub stored_answered : (result : Result Output Status) (shown given : List ℕ) → TellsFailure w result mark →
-      KnowsBefore w (λ service. IsReplied result shown given (serve service old.number (OnStore call) mark).reply) ranked.before ranked.after.entry → IsAnswered w old.pass.me.0 new.pass.me.0 request rank result shown given
-  stored_answered result shown given failure replied =
-      kept_answered w old new r 1 request call asks mark rank ranked.before ranked.after.entry made result shown given failure (λ start is tells told. replied start is tells)
+  pub stored_answered : {P : model.Store → Type 0} → DecidesAt w P ranked.before ranked.after.entry → (result : Result Output Status) (shown given : List ℕ) → TellsFailure w result mark →
+      ((service : Service) → P service.store → IsReplied result shown given (serve service old.number (OnStore call) mark).reply) → IsAnswered w old.pass.me.0 new.pass.me.0 request rank result shown given
+  stored_answered = decided_answered w old new r 1 request call asks mark rank ranked.before ranked.after.entry made
+
+  -- nothing was decided
+  pub undecided : DecidesAt w (λ m. Unit {0}) ranked.before ranked.after.entry
+  undecided = by_none w 4 old new r 1 request mark rank ranked.before ranked.after.entry made
 
   -- and leaves the buffer
-  pub stored : SameButPass old new → DrawsNone call → IsAt w new.pass → Legal w (entries_of new.pass.me.0.seen) → (result : Result Output Status) → TellsFailure w result mark →
-      KnowsBefore w (λ service. Gives result (serve service old.number (OnStore call) mark).reply) ranked.before ranked.after.entry →
+  pub stored : SameButPass old new → DrawsNone call → IsAt w new.pass → Legal w (entries_of new.pass.me.0.seen) → {P : model.Store → Type 0} → DecidesAt w P ranked.before ranked.after.entry →
+      (result : Result Output Status) → TellsFailure w result mark → ((service : Service) → P service.store → Gives result (serve service old.number (OnStore call) mark).reply) →
       IsReady w 0 new × ((buffer : List ℕ) → IsAnswered w old.pass.me.0 new.pass.me.0 request rank result buffer buffer)
-  stored same none at legal result failure gives =
-      (stored_ready same none at legal, λ buffer. stored_answered result buffer buffer failure (λ start is tells. let g = gives start is tells in (g.answers, g.unwritten buffer)))
+  stored same none at legal decides result failure gives =
+      (stored_ready same none at legal, λ buffer. stored_answered decides result buffer buffer failure (λ service p. let g = gives service p in (g.answers, g.unwritten buffer)))
 
 -- what was decided of the store before the entry is known of the service's
-pub decided_known : {D A C : Type 0} (w : World D A C) (P : model.Store → Type 0) (before : List Entry) (e : Entry) → DecidesBefore w P before e → KnowsBefore w (λ service. P service.store) before e
-decided_known w P before e decides start is tells = let d = decides start is in subst P (d.1 tells) d.2
-
--- and what was decided of it after an entry that changes no key, of the store before but for the count
-pub decided_after : {D A C : Type 0} (w : World D A C) (P : model.Store → Type 0) (before : List Entry) (e : Entry) → may_change_keys e.call ≡ false → DecidesAfter w P before e →
-    KnowsBefore w (λ service. P (counted service.store)) before e
-decided_after w P before e quiet decides start is tells =
-    let d = decides start is in subst P (d.1 tells ∙ (ap (λ (s : Service). s.store) (replay_push start before e) ∙ leaves_shared (replay start before) e.caller e.call e.mark quiet)) d.2
+pub decided_known : {D A C : Type 0} (w : World D A C) (P : model.Store → Type 0) (before : List Entry) (e : Entry) → DecidesBefore w P before e → KnowsTold w (λ service. P service.store) before e
+decided_known w P before e decides start is tells = let d = decides start is in subst P (d.replayed tells) d.holds
 
 -- by the answer that is there
 pub on_ok : {A E : Type 0} {P : Type 0} (answer : Result A E) {a : A} → answer ≡ Ok a → OnOk answer P → P
@@ -166,7 +170,7 @@ module _ {D A C : Type 0} (w : World D A C) (old new : Caller D A C) (r : IsRead
     (c : IsCreated old.pass.me.0 new.pass.me.0 request mark rank Decided) where
   pub drew_ready : (drawn : ℕ) → words_used drawn ≤ 256 → new.number ≡ old.number → new.spent ≡ old.spent → new.handles ≡ old.handles → new.spares ≡ old.spares → new.stream ≡ drawn_from old.stream drawn →
       IsAt w new.pass → Legal w (entries_of new.pass.me.0.seen) →
-      KnowsBefore w (λ service. IsOwnPart r.operations new.stream.place (own_of (serve service old.number (OnStore call) mark).service old.number)) c.before c.entry → IsReady w 0 new
+      KnowsTold w (λ service. IsOwnPart r.operations new.stream.place (own_of (serve service old.number (OnStore call) mark).service old.number)) c.before c.entry → IsReady w 0 new
   drew_ready drawn few number spent handles spares stream at legal own = kept_ready w old new r 2 request call asks mark rank c.before c.entry c.called drawn few (omega arith) (record {
     number = number;
     spent = spent;
@@ -176,10 +180,10 @@ module _ {D A C : Type 0} (w : World D A C) (old new : Caller D A C) (r : IsRead
     spares = same_spares r.clear spares;
   }) at legal own
 
-  pub created_answered : (result : Result Output Status) → TellsFailure w result mark → KnowsBefore w (λ service. Gives result (serve service old.number (OnStore call) mark).reply) c.before c.entry →
-      (buffer : List ℕ) → IsAnswered w old.pass.me.0 new.pass.me.0 request rank result buffer buffer
-  created_answered result failure gives buffer =
-      kept_answered w old new r 2 request call asks mark rank c.before c.entry c.called result buffer buffer failure (λ start is tells told. let g = gives start is tells in (g.answers, g.unwritten buffer))
+  pub created_answered : {P : model.Store → Type 0} → DecidesAt w P c.before c.entry → (result : Result Output Status) → TellsFailure w result mark →
+      ((service : Service) → P service.store → Gives result (serve service old.number (OnStore call) mark).reply) → (buffer : List ℕ) → IsAnswered w old.pass.me.0 new.pass.me.0 request rank result buffer buffer
+  created_answered decides result failure gives buffer =
+      decided_answered w old new r 2 request call asks mark rank c.before c.entry c.called decides result buffer buffer failure (λ service p. let g = gives service p in (g.answers, g.unwritten buffer))
 
   -- where no random word is drawn
   pub created_ready : SameButPass old new → DrawsNone call → IsAt w new.pass → Legal w (entries_of new.pass.me.0.seen) → IsReady w 0 new

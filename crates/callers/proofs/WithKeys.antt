@@ -14,7 +14,7 @@ IsLocal asked id store = is_of_element asked ≡ true → is_opaque_key (map.get
 
 -- such a call changes no key
 pub quiet_call : (asked : KeyedCall) (id room : ℕ) → may_change_keys (OnStore (model_keyed_call asked id room)) ≡ false
-quiet_call asked id room = (reads (service_start (record { seed = []; labels = []; locations = []; has_file = true }) []) 1 asked id room).1
+quiet_call asked id room = (reads (service_start (record { seed = []; labels = []; locations = [] }) []) 1 asked id room).1
 
 -- what a call is served so leaves a caller's own part, and answers
 pub record IsRefusal (service : Service) (caller : ℕ) (call : Call) (mark : FaultMark) (why : Status) : Type 0 where

@@ -5,7 +5,7 @@ use Rattle.turn_history.specs.declared.pass.View.{View}
 use Rattle.turn_history.specs.Prelude.{entries_of, StartsWith}
 use Rattle.service_calls.specs.declared.output.Output.{Output}
 use Rattle.service_calls.specs.Answered.{AnswersReply}
-use Rattle.store_model.specs.Prelude.{Reply, buffer_after, FaultMark, Service, asks_device, Request, Entry, outcome_of, replay}
+use Rattle.store_model.specs.Prelude.{Reply, buffer_after, FaultMark, Service, IsSoundStore, asks_device, counted, Request, Entry, outcome_of, replay}
 use Rattle.store_core.specs.declared.store.Opened.{Opened}
 use Rattle.locked_store.specs.Prelude.{GoesOn, IsLegal, IsStartOf, ToldBy, World}
 use Rattle.callers.specs.Failures.{failure_in, failure_marked}
@@ -39,9 +39,18 @@ module _ {D A C : Type 0} (w : World D A C) where
   abbrev pub Legal : List Entry → Type 0
   Legal h = IsLegal w h
 
-  -- P holds of the one-thread service before an entry, from each start and as far as that is told
+  -- There is a one-thread service of which P holds: with the start's settings and, once the entry's call is counted, a sound store.
+  -- As far as the history with the entry is told, it is the replay's.
+  pub record HasService (start : Service) (P : Service → Type 0) (before : List Entry) (e : Entry) : Type 0 where
+    pub service : Service
+    pub settings : service.store.settings ≡ start.store.settings
+    pub sound : IsSoundStore (counted service.store)
+    pub replayed : IsToldTo start (before ++ e ∷ []) → service ≡ replay start before
+    pub holds : P service
+
+  -- P holds of a one-thread service before an entry, from each start: of the replay's, as far as the history with the entry is told
   abbrev pub KnowsBefore : (Service → Type 0) → List Entry → Entry → Type 0
-  KnowsBefore P before e = (start : Service) → Starts start → IsToldTo start (before ++ e ∷ []) → P (replay start before)
+  KnowsBefore P before e = (start : Service) → Starts start → HasService start P before e
 
   -- what the reply is made of is told: the devices tell their keys, or the secure element isn't asked
   abbrev pub TellsReply : Service → (caller : ℕ) → Request → Type 0
@@ -51,8 +60,8 @@ module _ {D A C : Type 0} (w : World D A C) where
   abbrev pub TellsFailure : Result Output Status → FaultMark → Type 0
   TellsFailure result mark = (start : Service) → Starts start → failure_in result ≡ failure_marked mark
 
-  -- The call has its entry at the place r of what the caller has then seen. Result and output buffer are those that the one-thread
-  -- service gives there, as far as the history and what the secure element computes are told. Whether or not they are, the result
+  -- The call has its entry at the place r of what the caller has then seen. Result and output buffer are those that a one-thread
+  -- service gives there, as far as what the secure element computes is told: the replay's, as far as the history is. The result
   -- tells of a device that failed exactly where the entry's mark does.
   pub record IsAnswered (v u : View Entry (Opened D A C)) (call : Request) (r : ℕ) (result : Result Output Status) (old new : List ℕ) : Type 0 where
     pub turns : ℕ

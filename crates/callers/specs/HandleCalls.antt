@@ -6,7 +6,7 @@ use Rattle.secret_bytes.specs.Buffer.{bytes_of}
 use Rattle.slot_table.specs.Lent.{Reading}
 use Rattle.service_calls.specs.Meanings.{model_step}
 use Rattle.service_calls.specs.declared.steps.Step.{Step}
-use Rattle.store_model.specs.Prelude.{DerivationWork, key_step_rows, with_key, without, Deriving, HandleOperation, Held, KeyCreation, derivation_part, key_of_operation, part_of, Active, After, InError}
+use Rattle.store_model.specs.Prelude.{DerivationWork, key_step_rows, with_key, without, Deriving, HandleOperation, Held, KeyCreation, derivation_part, is_alive, key_of_operation, next_random, operation_of, part_of, Active, After, InError, Service}
 use Rattle.operation_handles.specs.Steps.{stepped_by}
 use Rattle.operation_handles.specs.declared.handle.OperationHandle.{OperationHandle}
 use Rattle.callers.specs.Handles.{AreOperations, IsChanged, operation_at}
@@ -14,6 +14,19 @@ use Rattle.callers.specs.Handles.{AreOperations, IsChanged, operation_at}
 -- what a step makes of a handle's operation, by whether its key is there
 abbrev pub stepped_at : List HandleOperation → (op : ℕ) → (alive : Bool) → RandomStream → Step → (room : ℕ) → After Held
 stepped_at operations op alive stream step room = stepped_by alive (next_bytes stream 16) (operation_at operations op) (model_step step room)
+
+-- an operation with another key
+abbrev pub rekeyed : Option KeyCreation → HandleOperation → HandleOperation
+rekeyed key (Active held) = Active (record held { key = key })
+rekeyed key operation = operation
+
+-- A service has this operation at a caller's handle, perhaps with another key, and there is that key where `alive` says so. The
+-- caller draws the random words of this stream.
+pub record IsAsked (service : Service) (caller handle : ℕ) (operation : HandleOperation) (stream : RandomStream) (alive : Bool) : Type 0 where
+  pub key : Option KeyCreation
+  pub operation_is : operation_of service caller handle ≡ rekeyed key operation
+  pub lives : alive ≡ is_alive service.store (key_of_operation (operation_of service caller handle))
+  pub random : (count : ℕ) → next_random service caller count ≡ next_bytes stream count
 
 -- DERIVATIONS
 

@@ -6,13 +6,15 @@ use Rattle.key_slots.specs.Holdings.{names}
 use Rattle.slot_table.specs.Lent.{Reading}
 use Rattle.service_calls.specs.declared.store_calls.KeyedCall.{KeyedCall}
 use Rattle.single_part.specs.Elements.{takes_vector}
-use Rattle.locked_store.specs.Prelude.{IsLater, lease_pair, without_pair}
+use Rattle.locked_store.specs.Prelude.{IsLater, World, lease_pair, without_pair}
 use Rattle.store_model.specs.Creation.{stated_bytes}
 use Rattle.store_model.specs.Prelude.{FaultMark, Entry, Request}
 use Rattle.store_core.specs.declared.store.Opened.{Opened}
 use Rattle.turn_history.specs.declared.pass.View.{View}
-use Rattle.callers.specs.Called.{IsCalled}
-use Rattle.callers.specs.Handles.{ArePairs}
+use Rattle.callers.specs.Called.{IsCalled, KnowsBefore}
+use Rattle.callers.specs.HandleCalls.{IsAsked}
+use Rattle.callers.specs.Handles.{ArePairs, operation_at}
+use Rattle.callers.specs.Ready.{IsReady}
 use Rattle.callers.specs.declared.caller.Caller.{Caller}
 
 -- the random bytes that a call has drawn which the secure element computed, or failed to
@@ -52,10 +54,9 @@ module _ {D A C : Type 0} where
   IsBack None old new = new ≡ old
   IsBack (Some lease) old new = IsGivenBack lease old new
 
-  -- a lease, where there is one, was given back in a turn without rank
-  abbrev pub IsReturned : Option Reading → (v u : View Entry (Opened D A C)) → Type 0
-  IsReturned None v u = u ≡ v
-  IsReturned (Some lease) v u = IsLater v u (without_pair (lease_pair lease) v.holding)
+  -- whether the key of the operation of a handle is still there is known before an entry
+  abbrev pub KnowsAlive : World D A C → Caller D A C → (handle : ℕ) → (alive : Bool) → List Entry → Entry → Type 0
+  KnowsAlive w c handle alive before e = (slack : ℕ) (r : IsReady w slack c) → KnowsBefore w (λ service. IsAsked service c.number handle (operation_at r.operations handle) c.stream alive) before e
 
   -- A slot was reserved in a turn without rank, and in a ranked one after that a key was made in it, or the slot was given up.
   pub record IsCreated (v u : View Entry (Opened D A C)) (call : Request) (mark : FaultMark) (rank : ℕ) (Decided : List Entry → Entry → Type 0) : Type 0 where

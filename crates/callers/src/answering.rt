@@ -31,8 +31,8 @@ fn begins_operation(call: &Call<'_>) -> bool
 
 impl<D: Disk, A: Devices, C: Admission> Caller<D, A, C> {
     /// Answers a call, with its rank. It has none exactly where a budget of so many calls doesn't suffice for it: then it
-    /// takes no turn, the answer is `PassWorn`, and nothing has changed. Where nothing is told the clauses don't exclude this
-    /// answer beside a rank. Bytes are written to the front of the buffer.
+    /// takes no turn, the answer is `PassWorn`, and nothing has changed. Of what a secure element computes that doesn't tell
+    /// its keys, the clauses don't exclude this answer beside a rank. Bytes are written to the front of the buffer.
     pub fn answer<R: Wait, G: Gate>(
         &mut self,
         rt: &R,

@@ -3,9 +3,9 @@ ghost use Rattle.std.specs.Prelude.{◌≡◌, ◌≤◌, ◌<◌, ◌+◌, ◌�
 ghost use Rattle.secret_bytes.specs.Buffer.{IsClear};
 ghost use Rattle.turn_history.specs.Prelude.{entries_of};
 ghost use Rattle.service_calls.specs.Meanings.{model_request};
-ghost use Rattle.store_model.specs.Prelude.{Plain, Inactive, is_alive, key_of_operation, operation_of};
+ghost use Rattle.store_model.specs.Prelude.{Plain, Inactive};
 ghost use Rattle.locked_store.specs.Prelude.{IsAt, IsLater, IsRanked, LeavesAllKeys, lease_pair, without_pair, world};
-ghost use Rattle.callers.specs.Prelude.{IsBack, IsReady, KnowsBefore, Legal, MayGoBack, SameButPass};
+ghost use Rattle.callers.specs.Prelude.{IsBack, IsReady, KnowsAlive, Legal, MayGoBack, SameButPass};
 
 use crate::caller::Caller;
 use admission::Admission;
@@ -32,8 +32,7 @@ impl<D: Disk, A: Devices, C: Admission> Caller<D, A, C> {
         ensures at { IsAt (world shared.now) self.new.pass }
         ensures legal { Legal (world shared.now) (entries_of self.new.pass.me.0.seen) }
         ensures ranked { IsRanked self.old.pass.me.0 self.new.pass.me.0 (model_request call.now room) Plain result.0 self.old.pass.me.0.holding
-            (KnowsBefore (world shared.now)
-            (λ service. result.1 ≡ is_alive service.store (key_of_operation (operation_of service self.old.number op)))) }
+            (KnowsAlive (world shared.now) self.old op result.1) }
         ensures same { SameButPass self.old self.new }
     {
         match self.handles.lease(op) {

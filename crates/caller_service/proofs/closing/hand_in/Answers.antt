@@ -1,6 +1,5 @@
 use Rattle.std.proofs.Common.{IfSome, [], ap, append_assoc, arith, length, map, option_to_list, reverse, subst, sym, ◌++◌, ◌∙◌, ◌∷◌, ◌≡◌}
-use Rattle.caller_service.proofs.Common.{All-pop, IsIdle, IsRetired, account_of, length_push}
-use Rattle.std.proofs.lemmas.List.{append-nil, reverse-append}
+use Rattle.caller_service.proofs.Common.{account_of, All-pop, IsIdle, IsRetired, length_push, reverse-append}
 use Rattle.caller_service.proofs.closing.hand_in.Goals as goal
 
 pub into_pass-requires-clause-retired : goal.into_pass-requires-clause-retired

@@ -1,7 +1,6 @@
 use Rattle.std.proofs.Common.{ap, arith, get_or, length, subst, sym, ◌<◌, ◌∙◌}
-use Rattle.caller_service.proofs.Common.{IsReady, MakesNoCall, world}
+use Rattle.caller_service.proofs.Common.{get_or_default, IsReady, MakesNoCall, world}
 use Rattle.caller_service.proofs.Ended.{one_retired}
-use Rattle.std.proofs.lemmas.List.{get_or_default}
 use Rattle.caller_service.proofs.closing.retire_all.Goals as goal
 
 pub loop-caller-init : goal.loop-caller-init

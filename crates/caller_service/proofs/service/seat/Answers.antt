@@ -2,9 +2,8 @@ use Rattle.std.proofs.Common.{All, IfSome, List, Option, Some, [], ap, append_as
 use Rattle.atomic_table.specs.Seated.{TableId}
 use Rattle.atomic_table.specs.declared.shared.Seat.{Seat}
 use Rattle.turn_history.specs.declared.pass.View.{View}
-use Rattle.turn_history.specs.Prelude.{AreNew, new_pass}
 use Rattle.caller_service.specs.declared.allotments.Allotment.{Allotment}
-use Rattle.caller_service.proofs.Common.{All-pop, IsAllotment, world}
+use Rattle.caller_service.proofs.Common.{All-pop, AreNew, IsAllotment, new_pass, world}
 use Rattle.std.proofs.Math.Seq.{get_or-append_seam}
 use Rattle.caller_service.proofs.Ended.{new_each}
 use Rattle.caller_service.proofs.service.seat.Goals as goal

@@ -1,6 +1,5 @@
 use Rattle.std.proofs.Common.{ap, arith, length, subst, sym, ◌+◌, ◌-◌, ◌<◌, ◌∙◌}
-use Rattle.callers.proofs.Common.{model_request, world}
-use Rattle.std.specs.Option.{option_map}
+use Rattle.callers.proofs.Common.{model_request, option_map, world}
 use Rattle.callers.proofs.Asking.{asked_with, asked_without}
 use Rattle.callers.proofs.HandleLists.{cell_at, named_alike, names_lease}
 use Rattle.callers.proofs.caller.Caller.ask.Goals as goal

@@ -46,6 +46,6 @@ returns-in-Err g c =
       ready = stayed_ready w old new r looked.after.entered first last Inactive free why applies refl refl refl refl refl
           (put_back old.spares c.pop.new.self new.spares (popped old.spares c.pop.new.self c.in-Some.is c.pop.ensures.items c.pop.ensures.capacity r.clear) (if_err (λ refused. IsClear refused.1) c.look-rank.result.1 c.in-Err.is c.look-rank.ensures.spare) c.push_reserved.ensures.items c.push_reserved.ensures.capacity)
           c.requires.worn c.look-rank.ensures.at c.look-rank.ensures.legal;
-      answered = stayed_answered w old new r looked.after.entered first last Inactive free why applies (λ start is. let d = looked.after.decided start is in refused_tells (use_refusal usage) (use_plainly usage) c.args.setup.key.0 why d.0 d.2);
+      answered = stayed_answered w old new r looked.after.entered first last Inactive free why applies (λ start is. let d = looked.after.decided start is in refused_tells (use_refusal usage) (use_plainly usage) c.args.setup.key.0 why d.model d.holds);
       spent = omega arith;
     }

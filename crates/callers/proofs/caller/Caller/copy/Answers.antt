@@ -1,11 +1,11 @@
 use Rattle.std.proofs.Common.{Err, Ok, ap, refl, sym, ◌∙◌}
-use Rattle.callers.proofs.Common.{Copy, DecidesBefore, IsMade, IsRanked, IsUncopied, OnStore, Plain, RecordsCopy, SameButPass, created_unless, failure_told, filling_pair, mark_uncopied, model_request, recorded_copy, replay, without_pair, world}
+use Rattle.callers.proofs.Common.{bytes_of_key, Copy, created_unless, DecidesBefore, failure_told, filling_pair, IsMade, IsRanked, IsUncopied, mark_uncopied, model_request, OnStore, Plain, recorded_copy, RecordsCopy, SameButPass, without_pair, world}
 use Rattle.std.specs.FinMap as map
 use Rattle.service_calls.specs.declared.output.Output.TheVariants as output
-use Rattle.store_model.specs.Prelude.{bytes_of_key}
 use Rattle.callers.proofs.Failing.{uncopied_tells}
 use Rattle.callers.proofs.Made.{made_gives, undrawn, uncopied_gives}
-use Rattle.callers.proofs.Storing.{created_answered, created_in, created_ready, decided_known, has_no_filling, if_err, if_ok}
+use Rattle.callers.proofs.Storing.{created_answered, created_in, created_ready, has_no_filling, if_err, if_ok}
+use Rattle.callers.proofs.Supposed.{by_before}
 use Rattle.callers.proofs.caller.Caller.copy.Goals as goal
 
 pub reserve-filling-requires-clause-space : goal.reserve-filling-requires-clause-space
@@ -18,9 +18,9 @@ returns-in-Ok g c =
     let created = created_in filling c.reserve-filling.ensures.later
     (if_ok (λ id. IsRanked u new.pass.me.0 (model_request c.args.call.now c.args.room) Plain c.copy-rank.result.0 (without_pair (filling_pair filling) u.holding) (DecidesBefore w (IsMade records old.number id.0))) c.copy-rank.result.1 c.in-Ok.is c.copy-rank.ensures.made) in record {
       ready = created_ready w old new c.requires.ready (Copy source stated) asks created same (λ store caller random. undrawn store caller (recorded_copy store caller (map.get store.keys source) stated) (bytes_of_key (map.get store.keys source))) c.copy-rank.ensures.at c.copy-rank.ensures.legal;
-      answered = created_answered w old new c.requires.ready (Copy source stated) asks created (Ok (output.Identifier id)) (λ start is. refl) (λ start is tells.
-          let store = (replay start created.before).store in let bytes = bytes_of_key (map.get store.keys source) in
-          made_gives (replay start created.before) old.number (OnStore (Copy source stated)) records bytes (λ recorded is. ap (λ o. (created_unless store old.number o bytes).reply) (sym is)) id (decided_known w (IsMade records old.number id.0) created.before created.entry created.decided start is tells));
+      answered = created_answered w old new c.requires.ready (Copy source stated) asks created (by_before w created.decided) (Ok (output.Identifier id)) (λ start is. refl) (λ service made.
+          let bytes = bytes_of_key (map.get service.store.keys source) in
+          made_gives service old.number (OnStore (Copy source stated)) records bytes (λ recorded is. ap (λ o. (created_unless service.store old.number o bytes).reply) (sym is)) id made);
       same = same;
     }
 
@@ -31,9 +31,9 @@ returns-in-Err g c =
     let created = created_in filling c.reserve-filling.ensures.later
     (if_err (λ why. IsRanked u new.pass.me.0 (model_request c.args.call.now c.args.room) (mark_uncopied why) c.copy-rank.result.0 (without_pair (filling_pair filling) u.holding) (DecidesBefore w (IsUncopied records source why))) c.copy-rank.result.1 c.in-Err.is c.copy-rank.ensures.uncopied) in record {
       ready = created_ready w old new c.requires.ready (Copy source stated) asks created same (λ store caller random. undrawn store caller (recorded_copy store caller (map.get store.keys source) stated) (bytes_of_key (map.get store.keys source))) c.copy-rank.ensures.at c.copy-rank.ensures.legal;
-      answered = created_answered w old new c.requires.ready (Copy source stated) asks created (Err c.status.result) (λ start is. let d = created.decided start is in ap failure_told c.status.ensures ∙ uncopied_tells start old.number source stated d.0 why d.2) (λ start is tells.
-          let store = (replay start created.before).store in let bytes = bytes_of_key (map.get store.keys source) in
-          rw c.status.ensures (uncopied_gives (replay start created.before) old.number source (OnStore (Copy source stated)) records bytes (λ recorded is. ap (λ o. (created_unless store old.number o bytes).reply) (sym is))
-          (λ none. ap (λ found. recorded_copy store old.number found stated) (sym none)) why (decided_known w (IsUncopied records source why) created.before created.entry created.decided start is tells)));
+      answered = created_answered w old new c.requires.ready (Copy source stated) asks created (by_before w created.decided) (Err c.status.result) (λ start is. let d = created.decided start is in ap failure_told c.status.ensures ∙ uncopied_tells start old.number source stated d.model why d.holds) (λ service uncopied.
+          let bytes = bytes_of_key (map.get service.store.keys source) in
+          rw c.status.ensures (uncopied_gives service old.number source (OnStore (Copy source stated)) records bytes (λ recorded is. ap (λ o. (created_unless service.store old.number o bytes).reply) (sym is))
+          (λ none. ap (λ found. recorded_copy service.store old.number found stated) (sym none)) why uncopied));
       same = same;
     }

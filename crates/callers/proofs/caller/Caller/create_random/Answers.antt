@@ -1,10 +1,10 @@
-use Rattle.std.proofs.Common.{Err, None, Ok, [], ap, arith, length, refl, subst, ◌++◌, ◌∙◌, ◌∷◌, ◌≡◌}
-use Rattle.callers.proofs.Common.{DecidesBefore, Generate, IsCreated, IsMade, IsUnmade, OnStore, Plain, RandomStream, RecordsStated, created_unless, draws_none, drawn_for, failure_told, mark_unmade, model_request, plain_step, replay, world}
+use Rattle.std.proofs.Common.{Err, None, Ok, ap, arith, length, refl, ◌∙◌}
+use Rattle.callers.proofs.Common.{DecidesBefore, Generate, IsCreated, IsMade, IsUnmade, OnStore, Plain, RandomStream, RecordsStated, draws_none, drawn_for, failure_told, mark_unmade, model_request, replay, world}
 use Rattle.service_calls.specs.declared.output.Output.TheVariants as output
-use Rattle.callers.proofs.Generating.{few_for, generates, made_own, unmade_own}
+use Rattle.callers.proofs.Generating.{few_for, generates, generation_replies, made_own, unmade_own}
 use Rattle.callers.proofs.Failing.{stated_plainly, unmade_tells}
 use Rattle.callers.proofs.Made.{made_gives, unmade_gives}
-use Rattle.callers.proofs.Journeys.{told_front}
+use Rattle.callers.proofs.Supposed.{by_before}
 use Rattle.callers.proofs.Readying.{known}
 use Rattle.callers.proofs.Storing.{created_answered, decided_known, drew_ready, has_no_filling, if_err, if_ok}
 use Rattle.callers.proofs.caller.Caller.create_random.Goals as goal
@@ -24,14 +24,12 @@ returns-in-Ok g c =
     let request = model_request c.args.call.now c.args.room in let asks = ap (λ x. model_request x c.args.room) c.requires.call in let bytes = c.args.bytes.now in let a = c.args.attributes in
     let records = RecordsStated None old.number a (length bytes) in let same = c.create-rank.ensures.same in let id = c.in-Ok.id in let stream = same.stream ∙ c.requires.drawn in
     let created = if_ok (λ id. IsCreated old.pass.me.0 new.pass.me.0 request Plain c.create-rank.result.0 (DecidesBefore w (IsMade records old.number id.0))) c.create-rank.result.1 c.in-Ok.is c.create-rank.ensures.made in
-    let made = decided_known w (IsMade records old.number id.0) created.before created.entry created.decided in
-    let creates = generates w 4 old r a request asks c.requires.whole bytes c.requires.count c.requires.bytes in record {
+    let made = decided_known w (IsMade records old.number id.0) created.before created.entry created.decided in record {
       ready = drew_ready w old new r (Generate a) asks created (drawn_for a) (few_for a) same.number same.spent same.handles same.spares stream c.create-rank.ensures.at c.create-rank.ensures.legal (λ start starts tells.
           let k = known w 4 old new r 2 request Plain c.create-rank.result.0 created.before created.entry created.called start starts tells in
           made_own (replay start created.before) old.number a c.requires.whole (length bytes) c.requires.count r.operations old.stream.place new.stream.place k.sound r.last k.own id (ap (λ (s : RandomStream). s.place) stream) (made start starts tells));
-      answered = created_answered w old new r (Generate a) asks created (Ok (output.Identifier id)) (λ start is. refl) (λ start starts tells.
-          made_gives (replay start created.before) old.number (OnStore (Generate a)) records bytes (λ recorded is. subst (λ q. (plain_step (replay start created.before) old.number q).reply ≡ (created_unless (replay start created.before).store old.number recorded bytes).reply) asks
-          (creates.answers start starts created.before created.called.goes_on (told_front (w.disk.contents w.opened.file.value.cells.disk) start (created.before ++ created.entry ∷ []) created.before (created.entry ∷ [], refl) tells) recorded is)) id (made start starts tells));
+      answered = created_answered w old new r (Generate a) asks created (by_before w created.decided) (Ok (output.Identifier id)) (λ start is. refl)
+          (λ service made. made_gives service old.number (OnStore (Generate a)) records bytes (generation_replies service old.number a bytes c.requires.whole c.requires.count) id made);
       spent = same.spent;
       handles = same.handles;
     }
@@ -42,14 +40,12 @@ returns-in-Err g c =
     let request = model_request c.args.call.now c.args.room in let asks = ap (λ x. model_request x c.args.room) c.requires.call in let bytes = c.args.bytes.now in let a = c.args.attributes in
     let records = RecordsStated None old.number a (length bytes) in let same = c.create-rank.ensures.same in let why = c.in-Err.why in let stream = c.go_back.ensures ∙ (λ i. record (same.stream i) { place = c.args.place }) ∙ draws_none old.stream in
     let created = if_err (λ why. IsCreated old.pass.me.0 new.pass.me.0 request (mark_unmade why) c.create-rank.result.0 (DecidesBefore w (IsUnmade records why))) c.create-rank.result.1 c.in-Err.is c.create-rank.ensures.unmade in
-    let unmade = decided_known w (IsUnmade records why) created.before created.entry created.decided in
-    let creates = generates w 4 old r a request asks c.requires.whole bytes c.requires.count c.requires.bytes in record {
+    let unmade = decided_known w (IsUnmade records why) created.before created.entry created.decided in record {
       ready = drew_ready w old new r (Generate a) asks created 0 (omega arith) same.number same.spent same.handles same.spares stream c.create-rank.ensures.at c.create-rank.ensures.legal (λ start starts tells.
           let k = known w 4 old new r 2 request (mark_unmade why) c.create-rank.result.0 created.before created.entry created.called start starts tells in
           unmade_own (replay start created.before) old.number a c.requires.whole (length bytes) c.requires.count r.operations old.stream.place new.stream.place k.sound r.last k.own why (let p = ap (λ (s : RandomStream). s.place) stream in omega arith) (unmade start starts tells));
-      answered = created_answered w old new r (Generate a) asks created (Err c.status.result) (λ start is. let d = created.decided start is in ap failure_told c.status.ensures ∙ unmade_tells records d.0 (stated_plainly None old.number a (length bytes) d.0) why d.2) (λ start starts tells.
-          rw c.status.ensures (unmade_gives (replay start created.before) old.number (OnStore (Generate a)) records bytes (λ recorded is. subst (λ q. (plain_step (replay start created.before) old.number q).reply ≡ (created_unless (replay start created.before).store old.number recorded bytes).reply) asks
-          (creates.answers start starts created.before created.called.goes_on (told_front (w.disk.contents w.opened.file.value.cells.disk) start (created.before ++ created.entry ∷ []) created.before (created.entry ∷ [], refl) tells) recorded is)) why (unmade start starts tells)));
+      answered = created_answered w old new r (Generate a) asks created (by_before w created.decided) (Err c.status.result) (λ start is. let d = created.decided start is in ap failure_told c.status.ensures ∙ unmade_tells records d.model (stated_plainly None old.number a (length bytes) d.model) why d.holds)
+          (λ service unmade. rw c.status.ensures (unmade_gives service old.number (OnStore (Generate a)) records bytes (generation_replies service old.number a bytes c.requires.whole c.requires.count) why unmade));
       spent = same.spent;
       handles = same.handles;
     }

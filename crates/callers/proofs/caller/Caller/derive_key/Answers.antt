@@ -1,6 +1,5 @@
 use Rattle.std.proofs.Common.{ap, length, refl, take, ◌∷◌}
-use Rattle.callers.proofs.Common.{DecidesBefore, IsMade, IsRanked, IsUnmade, Plain, RecordsStated, fails, filling_pair, mark_unmade, model_request, status_unmade, without_pair, world}
-use Rattle.std.specs.Option.{option_map}
+use Rattle.callers.proofs.Common.{DecidesBefore, fails, filling_pair, IsMade, IsRanked, IsUnmade, mark_unmade, model_request, option_map, Plain, RecordsStated, status_unmade, without_pair, world}
 use Rattle.callers.proofs.Handling.{goes_back, spent_back}
 use Rattle.callers.proofs.Failing.{stated_plainly, unmade_tells}
 use Rattle.callers.proofs.Outputting.{derived_creates, failed, output_answered, output_ready, taken, taken_is_out, unmade_answered, unmade_ready}
@@ -63,6 +62,6 @@ returns-in-Err g c =
     let change = failed old r c.args.op a mid.list.items lease first last c.lease-lease.ensures.lease given settled.handles.list.items out c.fail_output-lease.ensures in record {
       ready = unmade_ready w old r request c.args.op a asks first last mid.list.items lease bytes given new rank settled why created out refl change back refl refl refl c.give_back.ensures.at c.give_back.ensures.legal;
       answered = rw c.status.ensures (unmade_answered w old r request c.args.op a asks first last mid.list.items lease bytes given new rank settled why created out refl change back
-          (λ start is. let d = created.decided start is in unmade_tells records d.0 (stated_plainly lease old.number a (length bytes) d.0) why d.2));
+          (λ start is. let d = created.decided start is in unmade_tells records d.model (stated_plainly lease old.number a (length bytes) d.model) why d.holds));
       spent = spent_back settled new out back;
     }

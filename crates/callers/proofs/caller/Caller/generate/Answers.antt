@@ -1,7 +1,7 @@
-use Rattle.std.proofs.Common.{None, Some, ap, refl, sym, ◌∙◌, ◌≡◌}
-use Rattle.callers.proofs.Common.{Generate, Status, model_request, world}
-use Rattle.callers.proofs.Generating.{no_bytes_drawn}
-use Rattle.callers.proofs.Storing.{stored_ready}
+use Rattle.std.proofs.Common.{Err, None, Some, ap, refl, sym, ◌∙◌, ◌≡◌}
+use Rattle.callers.proofs.Common.{Generate, InvalidArgument, Status, model_request, world}
+use Rattle.callers.proofs.Generating.{no_bytes_drawn, no_bytes_give}
+use Rattle.callers.proofs.Storing.{stored_answered, stored_ready, undecided}
 use Rattle.callers.proofs.caller.Caller.generate.Goals as goal
 
 clash : {s : Status} → Some s ≡ None → ⊥
@@ -11,3 +11,9 @@ pub returns-then-not-says_bytes-clause-ready : goal.returns-then-not-says_bytes-
 returns-then-not-says_bytes-clause-ready g c =
     stored_ready (world c.args.shared.now) c.args.self.now (record c.args.self.now { pass = c.count-rank.new.pass }) c.requires.ready (Generate c.args.attributes) (ap (λ x. model_request x c.args.room) c.requires.call) c.count-rank.ensures.counted
     (record { number = refl; spent = refl; stream = refl; spares = refl; handles = refl }) (no_bytes_drawn c.args.attributes (λ none. clash (sym (c.says_bytes.ensures.no c.if-not-says_bytes.true) ∙ none))) c.count-rank.ensures.at c.count-rank.ensures.legal
+
+pub returns-then-not-says_bytes-clause-answered : goal.returns-then-not-says_bytes-clause-answered
+returns-then-not-says_bytes-clause-answered g c buffer =
+    let w = world c.args.shared.now in let old = c.args.self.now in let new = record old { pass = c.count-rank.new.pass } in let asks = ap (λ x. model_request x c.args.room) c.requires.call in let ranked = c.count-rank.ensures.counted in
+    stored_answered w old new c.requires.ready (Generate c.args.attributes) asks ranked (undecided w old new c.requires.ready (Generate c.args.attributes) asks ranked) (Err InvalidArgument) buffer buffer (λ start is. refl)
+    (λ service none. let g = no_bytes_give service old.number c.args.attributes InvalidArgument (c.says_bytes.ensures.no c.if-not-says_bytes.true) in (g.answers, g.unwritten buffer))

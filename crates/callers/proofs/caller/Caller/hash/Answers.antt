@@ -1,7 +1,7 @@
 use Rattle.std.proofs.Common.{ap, length, refl, subst, sym, ◌∙◌}
-use Rattle.callers.proofs.Common.{AnswersReply, OnStore, Outcome, SameButPass, Service, answers_plainly, buffer_after, hashes, model_hash_call, model_request, next_random, plain_step, replay, world}
+use Rattle.callers.proofs.Common.{AnswersReply, OnStore, Outcome, SameButPass, Service, answers_plainly, buffer_after, hashes, model_hash_call, model_request, next_random, plain_step, world}
 use Rattle.callers.proofs.Failing.{answers_plain}
-use Rattle.callers.proofs.Storing.{stored_answered, stored_ready}
+use Rattle.callers.proofs.Storing.{stored_answered, stored_ready, undecided}
 use Rattle.callers.proofs.caller.Caller.hash.Goals as goal
 
 pub returns : goal.returns
@@ -11,8 +11,8 @@ returns g c =
     let is = λ (service : Service). sym (ap (λ (o : Outcome). o.reply) (hashes service.store old.number (next_random service old.number) c.args.asked.now (length shown))) in
     let same : SameButPass old new = record { number = refl; spent = refl; stream = refl; spares = refl; handles = refl } in record {
       ready = stored_ready w old new c.requires.ready call asks ranked same (λ store caller random. ap (λ (o : Outcome). o.drawn) (hashes store caller random c.args.asked.now (length shown))) c.count-rank.ensures.at c.count-rank.ensures.legal;
-      answered = stored_answered w old new c.requires.ready call asks ranked result shown c.compute_hash-result.new.out
+      answered = stored_answered w old new c.requires.ready call asks ranked (undecided w old new c.requires.ready call asks ranked) result shown c.compute_hash-result.new.out
           (λ start starts. answers_plain result (plain_step start old.number (OnStore call)).reply (subst (AnswersReply result) (is start) c.compute_hash-result.ensures.reply) (answers_plainly start old.number (OnStore call)))
-          (λ start starts tells. let there = is (replay start ranked.before) in (subst (AnswersReply result) there c.compute_hash-result.ensures.reply, c.compute_hash-result.ensures.buffer ∙ ap (buffer_after shown) there));
+          (λ service none. let there = is service in (subst (AnswersReply result) there c.compute_hash-result.ensures.reply, c.compute_hash-result.ensures.buffer ∙ ap (buffer_after shown) there));
       same = same;
     }

@@ -1,9 +1,10 @@
 use Rattle.std.proofs.Common.{Err, None, Ok, ap, length, refl, sym, ◌∙◌}
-use Rattle.callers.proofs.Common.{DecidesBefore, Import, IsCreated, IsMade, IsUnmade, OnStore, Plain, RecordsStated, created_unless, failure_told, mark_unmade, model_request, recorded_of, replay, world}
+use Rattle.callers.proofs.Common.{DecidesBefore, Import, IsCreated, IsMade, IsUnmade, OnStore, Plain, RecordsStated, created_unless, failure_told, mark_unmade, model_request, recorded_of, world}
 use Rattle.service_calls.specs.declared.output.Output.TheVariants as output
 use Rattle.callers.proofs.Failing.{stated_plainly, unmade_tells}
 use Rattle.callers.proofs.Made.{made_gives, undrawn, unmade_gives}
-use Rattle.callers.proofs.Storing.{created_answered, created_ready, decided_known, has_no_filling, if_err, if_ok}
+use Rattle.callers.proofs.Storing.{created_answered, created_ready, has_no_filling, if_err, if_ok}
+use Rattle.callers.proofs.Supposed.{by_before}
 use Rattle.callers.proofs.caller.Caller.import.Goals as goal
 
 pub create-rank-requires-clause-space : goal.create-rank-requires-clause-space
@@ -15,8 +16,8 @@ returns-in-Ok g c =
     let records = RecordsStated None old.number a (length bytes) in let id = c.in-Ok.id in
     let created = if_ok (λ id. IsCreated old.pass.me.0 new.pass.me.0 (model_request c.args.call.now c.args.room) Plain c.create-rank.result.0 (DecidesBefore w (IsMade records old.number id.0))) c.create-rank.result.1 c.in-Ok.is c.create-rank.ensures.made in record {
       ready = created_ready w old new c.requires.ready (Import a bytes) asks created c.create-rank.ensures.same (λ store caller random. undrawn store caller (recorded_of store caller a (length bytes)) bytes) c.create-rank.ensures.at c.create-rank.ensures.legal;
-      answered = created_answered w old new c.requires.ready (Import a bytes) asks created (Ok (output.Identifier id)) (λ start is. refl) (λ start starts tells.
-          made_gives (replay start created.before) old.number (OnStore (Import a bytes)) records bytes (λ recorded is. ap (λ o. (created_unless (replay start created.before).store old.number o bytes).reply) (sym is)) id (decided_known w (IsMade records old.number id.0) created.before created.entry created.decided start starts tells));
+      answered = created_answered w old new c.requires.ready (Import a bytes) asks created (by_before w created.decided) (Ok (output.Identifier id)) (λ start is. refl)
+          (λ service made. made_gives service old.number (OnStore (Import a bytes)) records bytes (λ recorded is. ap (λ o. (created_unless service.store old.number o bytes).reply) (sym is)) id made);
       same = c.create-rank.ensures.same;
     }
 
@@ -26,7 +27,7 @@ returns-in-Err g c =
     let records = RecordsStated None old.number a (length bytes) in let why = c.in-Err.why in
     let created = if_err (λ why. IsCreated old.pass.me.0 new.pass.me.0 (model_request c.args.call.now c.args.room) (mark_unmade why) c.create-rank.result.0 (DecidesBefore w (IsUnmade records why))) c.create-rank.result.1 c.in-Err.is c.create-rank.ensures.unmade in record {
       ready = created_ready w old new c.requires.ready (Import a bytes) asks created c.create-rank.ensures.same (λ store caller random. undrawn store caller (recorded_of store caller a (length bytes)) bytes) c.create-rank.ensures.at c.create-rank.ensures.legal;
-      answered = created_answered w old new c.requires.ready (Import a bytes) asks created (Err c.status.result) (λ start is. let d = created.decided start is in ap failure_told c.status.ensures ∙ unmade_tells records d.0 (stated_plainly None old.number a (length bytes) d.0) why d.2) (λ start starts tells.
-          rw c.status.ensures (unmade_gives (replay start created.before) old.number (OnStore (Import a bytes)) records bytes (λ recorded is. ap (λ o. (created_unless (replay start created.before).store old.number o bytes).reply) (sym is)) why (decided_known w (IsUnmade records why) created.before created.entry created.decided start starts tells)));
+      answered = created_answered w old new c.requires.ready (Import a bytes) asks created (by_before w created.decided) (Err c.status.result) (λ start is. let d = created.decided start is in ap failure_told c.status.ensures ∙ unmade_tells records d.model (stated_plainly None old.number a (length bytes) d.model) why d.holds)
+          (λ service unmade. rw c.status.ensures (unmade_gives service old.number (OnStore (Import a bytes)) records bytes (λ recorded is. ap (λ o. (created_unless service.store old.number o bytes).reply) (sym is)) why unmade));
       same = c.create-rank.ensures.same;
     }

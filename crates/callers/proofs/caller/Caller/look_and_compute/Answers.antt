@@ -3,6 +3,7 @@ use Rattle.callers.proofs.Common.{DecidesAfter, IsClear, IsLent, IsRanked, IsRef
 use Rattle.callers.proofs.Computing.{asked_with, lent_answered, lent_ready, refused_answered, refused_ready}
 use Rattle.callers.proofs.Looking.{has_spare, popped, put_back}
 use Rattle.callers.proofs.Storing.{if_err, if_ok}
+use Rattle.callers.proofs.Supposed.{decides_as}
 use Rattle.callers.proofs.WithKeys.{quiet_call}
 use Rattle.callers.proofs.caller.Caller.look_and_compute.Goals as goal
 
@@ -16,10 +17,10 @@ returns-in-Ok g c =
     let usage = c.wanted-usage.result in let lease = c.in-Ok.lease in
     let ranked = if_ok (λ lease. IsRanked old.pass.me.0 c.look-rank.new.pass.me.0 request Plain c.look-rank.result.0 (lease_pair lease ∷ old.pass.me.0.holding) (DecidesAfter w (IsLent (use_refusal usage) key lease))) c.look-rank.result.1 c.in-Ok.is c.look-rank.ensures.lent in
     let looked = record old { pass = c.look-rank.new.pass; spares = c.pop.new.self } in let quiet = ap may_change_keys (ranked.after.entered.call_is ∙ asks) ∙ quiet_call asked key room in let given = c.compute_with.ensures in record {
-      ready = lent_ready w old r asked key room usage c.wanted-usage.ensures request asks c.look-rank.result.0 ranked.before ranked.after.entry quiet (λ start is tells e. absurd (false≢true (sym c.requires.local ∙ e)))
-          looked _ c.compute_with.new.self lease ranked.after.entered ranked.after.decided refl given.back refl refl refl refl (popped old.spares c.pop.new.self c.in-Some.is c.pop.ensures.items c.pop.ensures.capacity r.clear) given.at given.legal;
-      answered = lent_answered w old r asked key room usage c.wanted-usage.ensures request asks c.look-rank.result.0 ranked.before ranked.after.entry quiet (λ start is tells e. absurd (false≢true (sym c.requires.local ∙ e)))
-          looked _ c.compute_with.new.self lease ranked.after.entered ranked.after.decided refl given.back c.compute_with.result shown c.compute_with.new.out given.fits;
+      ready = lent_ready w old r asked key room usage c.wanted-usage.ensures request asks c.look-rank.result.0 ranked.before ranked.after.entry quiet
+          looked _ c.compute_with.new.self lease ranked.after.entered (decides_as w ranked.before ranked.after.entry ranked.after.decided (λ m lent. (lent, λ e. absurd (false≢true (sym c.requires.local ∙ e))))) refl given.back refl refl refl refl (popped old.spares c.pop.new.self c.in-Some.is c.pop.ensures.items c.pop.ensures.capacity r.clear) given.at given.legal;
+      answered = lent_answered w old r asked key room usage c.wanted-usage.ensures request asks c.look-rank.result.0 ranked.before ranked.after.entry quiet
+          looked _ c.compute_with.new.self lease ranked.after.entered (decides_as w ranked.before ranked.after.entry ranked.after.decided (λ m lent. (lent, λ e. absurd (false≢true (sym c.requires.local ∙ e))))) refl given.back c.compute_with.result shown c.compute_with.new.out given.fits;
       spent = given.back.spent;
       handles = given.back.handles;
     }
@@ -30,11 +31,11 @@ returns-in-Err g c =
     let usage = c.wanted-usage.result in let why = c.in-Err.status in
     let ranked = if_err (λ refused. IsRanked old.pass.me.0 c.look-rank.new.pass.me.0 request (mark_of refused.0) c.look-rank.result.0 old.pass.me.0.holding (DecidesAfter w (IsRefused (use_refusal usage) key refused.0))) c.look-rank.result.1 c.in-Err.is c.look-rank.ensures.refused in
     let new = record old { pass = c.look-rank.new.pass; spares = c.push_reserved.new.self } in let quiet = ap may_change_keys (ranked.after.entered.call_is ∙ asks) ∙ quiet_call asked key room in record {
-      ready = refused_ready w old r asked key room usage c.wanted-usage.ensures request asks c.look-rank.result.0 ranked.before ranked.after.entry quiet (λ start is tells e. absurd (false≢true (sym c.requires.local ∙ e)))
-          new why ranked.after.entered ranked.after.decided refl refl refl refl (put_back old.spares c.pop.new.self new.spares (popped old.spares c.pop.new.self c.in-Some.is c.pop.ensures.items c.pop.ensures.capacity r.clear) (if_err (λ refused. IsClear refused.1) c.look-rank.result.1 c.in-Err.is c.look-rank.ensures.spare) c.push_reserved.ensures.items c.push_reserved.ensures.capacity)
+      ready = refused_ready w old r asked key room usage c.wanted-usage.ensures request asks c.look-rank.result.0 ranked.before ranked.after.entry quiet
+          new why ranked.after.entered (decides_as w ranked.before ranked.after.entry ranked.after.decided (λ m row. (row, λ e. absurd (false≢true (sym c.requires.local ∙ e))))) refl refl refl refl (put_back old.spares c.pop.new.self new.spares (popped old.spares c.pop.new.self c.in-Some.is c.pop.ensures.items c.pop.ensures.capacity r.clear) (if_err (λ refused. IsClear refused.1) c.look-rank.result.1 c.in-Err.is c.look-rank.ensures.spare) c.push_reserved.ensures.items c.push_reserved.ensures.capacity)
           c.look-rank.ensures.at c.look-rank.ensures.legal;
-      answered = refused_answered w old r asked key room usage c.wanted-usage.ensures request asks c.look-rank.result.0 ranked.before ranked.after.entry quiet (λ start is tells e. absurd (false≢true (sym c.requires.local ∙ e)))
-          new why ranked.after.entered ranked.after.decided shown shown refl;
+      answered = refused_answered w old r asked key room usage c.wanted-usage.ensures request asks c.look-rank.result.0 ranked.before ranked.after.entry quiet
+          new why ranked.after.entered (decides_as w ranked.before ranked.after.entry ranked.after.decided (λ m row. (row, λ e. absurd (false≢true (sym c.requires.local ∙ e))))) shown shown refl;
       spent = refl;
       handles = refl;
     }

@@ -3,7 +3,7 @@ use Rattle.callers.proofs.Common.{AnswersReply, Done, NoFault, RefusesKeyAt, Rep
 use Rattle.callers.proofs.Beginning.{at_handle}
 use Rattle.callers.proofs.Failing.{key_refused_plainly, told_plainly}
 use Rattle.callers.proofs.Handling.{asked_answered, asked_back, asked_ready, spent_back, still_stand}
-use Rattle.callers.proofs.Inputting.{refusal_draws_none, untimely}
+use Rattle.callers.proofs.Inputting.{refusal_draws_none, untimely, untimely_alike}
 use Rattle.callers.proofs.caller.Caller.refuse_key.Goals as goal
 
 pub refuse_key-refused-requires : goal.refuse_key-refused-requires
@@ -21,9 +21,9 @@ returns-in-Ok g c =
     let operation = operation_at r.operations c.args.op in let after = key_refused alive operation c.args.step in let done = c.refuse_key-refused.ensures in let stand = still_stand asked.same r.stand in let changed = done.changed r.operations stand in
     let new = c.give_back.new.self in let back = c.give_back.ensures.back in let reply = ap plain_reply (sym c.in-Ok.is) ∙ done.reply r.operations stand in
     let asks = ap (λ call. model_request call c.args.room) c.requires.call in let refuses = at_handle (λ o. RefusesKeyAt o c.args.step) old.handles.list.items r.operations c.args.op r.stand done.first done.last c.requires.refuses in record {
-      ready = asked_ready w old x r asked.ranked asked.same handles x.stream after changed new back done.first done.last asks (λ service. untimely service c.args.op c.args.step c.args.key.0 done.first done.last refuses) c.give_back.ensures.at c.give_back.ensures.legal
+      ready = asked_ready w old x r asked.ranked asked.same handles x.stream after changed new back done.first done.last asks (λ o. key_refused alive o c.args.step) refl (untimely_alike alive c.args.step) (λ service. untimely service old.number c.args.op c.args.step c.args.key.0 refuses) c.give_back.ensures.at c.give_back.ensures.legal
           (asked.same.stream ∙ (draws_none old.stream ∙ ap (drawn_from old.stream) (sym (refusal_draws_none alive operation c.args.step)))) (let p = ap (λ x. x.place) asked.same.stream in omega arith);
-      answered = λ buffer. asked_answered w old x r asked.ranked asked.same handles x.stream after changed new back done.first done.last asks (λ service. untimely service c.args.op c.args.step c.args.key.0 done.first done.last refuses) (Ok Done) buffer buffer (λ start is. refl) (sym reply) (ap (buffer_after buffer) reply);
+      answered = λ buffer. asked_answered w old x r asked.ranked asked.same handles x.stream after changed new back done.first done.last asks (λ o. key_refused alive o c.args.step) refl (untimely_alike alive c.args.step) (λ service. untimely service old.number c.args.op c.args.step c.args.key.0 refuses) (Ok Done) buffer buffer (λ start is. refl) (sym reply) (ap (buffer_after buffer) reply);
       spent = spent_back (record x { handles = handles }) new c.refuse_key-refused.result.1 back ∙ asked.same.spent;
     }
 
@@ -33,9 +33,9 @@ returns-in-Err g c =
     let operation = operation_at r.operations c.args.op in let after = key_refused alive operation c.args.step in let done = c.refuse_key-refused.ensures in let stand = still_stand asked.same r.stand in let changed = done.changed r.operations stand in
     let new = c.give_back.new.self in let back = c.give_back.ensures.back in let why = c.in-Err.status in let reply = ap plain_reply (sym c.in-Err.is) ∙ done.reply r.operations stand in
     let asks = ap (λ call. model_request call c.args.room) c.requires.call in let refuses = at_handle (λ o. RefusesKeyAt o c.args.step) old.handles.list.items r.operations c.args.op r.stand done.first done.last c.requires.refuses in record {
-      ready = asked_ready w old x r asked.ranked asked.same handles x.stream after changed new back done.first done.last asks (λ service. untimely service c.args.op c.args.step c.args.key.0 done.first done.last refuses) c.give_back.ensures.at c.give_back.ensures.legal
+      ready = asked_ready w old x r asked.ranked asked.same handles x.stream after changed new back done.first done.last asks (λ o. key_refused alive o c.args.step) refl (untimely_alike alive c.args.step) (λ service. untimely service old.number c.args.op c.args.step c.args.key.0 refuses) c.give_back.ensures.at c.give_back.ensures.legal
           (asked.same.stream ∙ (draws_none old.stream ∙ ap (drawn_from old.stream) (sym (refusal_draws_none alive operation c.args.step)))) (let p = ap (λ x. x.place) asked.same.stream in omega arith);
-      answered = λ buffer. asked_answered w old x r asked.ranked asked.same handles x.stream after changed new back done.first done.last asks (λ service. untimely service c.args.op c.args.step c.args.key.0 done.first done.last refuses) (Err why) buffer buffer
+      answered = λ buffer. asked_answered w old x r asked.ranked asked.same handles x.stream after changed new back done.first done.last asks (λ o. key_refused alive o c.args.step) refl (untimely_alike alive c.args.step) (λ service. untimely service old.number c.args.op c.args.step c.args.key.0 refuses) (Err why) buffer buffer
           (λ start is. told_plainly why (subst (λ (reply : Reply). NoFault reply.status) (sym reply) (key_refused_plainly alive operation c.args.step))) (subst (AnswersReply (Err why)) reply (refl, refl)) (ap (buffer_after buffer) reply);
       spent = spent_back (record x { handles = handles }) new c.refuse_key-refused.result.1 back ∙ asked.same.spent;
     }

@@ -3,7 +3,7 @@ use Rattle.callers.proofs.Common.{AnswersReply, NoFault, Reply, buffer_after, de
 use Rattle.callers.proofs.Beginning.{at_handle}
 use Rattle.callers.proofs.Failing.{derived_plainly, told_plainly}
 use Rattle.callers.proofs.Handling.{asked_answered, asked_back, asked_ready, spent_back, still_stand}
-use Rattle.callers.proofs.Outputting.{output_draws_none, undue, undue_leaves}
+use Rattle.callers.proofs.Outputting.{output_draws_none, undue, undue_alike, undue_leaves}
 use Rattle.callers.proofs.caller.Caller.refuse_output_key.Goals as goal
 
 pub refuse_output_key-status-requires-clause-some : goal.refuse_output_key-status-requires-clause-some
@@ -32,9 +32,9 @@ returns g c =
     let new = c.give_back.new.self in let back = c.give_back.ensures.back in let first = c.requires.first in let last = c.requires.last in let why = c.refuse_output_key-status.result.0 in let reply = done.reply r.operations stand in
     let refuses = at_handle (λ o. output_key_refusal (part_of derivation_part o) c.args.attributes ≡ None → ⊥) old.handles.list.items r.operations c.args.op r.stand first last c.requires.refused in
     let asks = ap (λ call. model_request call c.args.room) c.requires.call in record {
-      ready = asked_ready w old x r asked.ranked asked.same handles x.stream after changed new back first last asks (λ service. undue service c.args.op c.args.attributes first last refuses) c.give_back.ensures.at c.give_back.ensures.legal
+      ready = asked_ready w old x r asked.ranked asked.same handles x.stream after changed new back first last asks (λ o. derived_key_refused alive o c.args.attributes) refl (undue_alike alive c.args.attributes) (λ service. undue service old.number c.args.op c.args.attributes refuses) c.give_back.ensures.at c.give_back.ensures.legal
           (asked.same.stream ∙ (draws_none old.stream ∙ ap (drawn_from old.stream) (sym (output_draws_none alive operation c.args.attributes)))) (let p = ap (λ x. x.place) asked.same.stream in omega arith);
-      answered = λ buffer. asked_answered w old x r asked.ranked asked.same handles x.stream after changed new back first last asks (λ service. undue service c.args.op c.args.attributes first last refuses) (Err why) buffer buffer
+      answered = λ buffer. asked_answered w old x r asked.ranked asked.same handles x.stream after changed new back first last asks (λ o. derived_key_refused alive o c.args.attributes) refl (undue_alike alive c.args.attributes) (λ service. undue service old.number c.args.op c.args.attributes refuses) (Err why) buffer buffer
           (λ start is. told_plainly why (subst (λ (reply : Reply). NoFault reply.status) (sym reply) (derived_plainly alive operation c.args.attributes))) (subst (AnswersReply (Err why)) reply (refl, refl)) (ap (buffer_after buffer) reply);
       spent = spent_back (record x { handles = handles }) new c.refuse_output_key-status.result.1 back ∙ asked.same.spent;
     }

@@ -1,7 +1,8 @@
-use Rattle.std.proofs.Common.{ap, arith, length, ◌∙◌}
+use Rattle.std.proofs.Common.{ap, arith, length, refl, ◌∙◌}
 use Rattle.callers.proofs.Common.{drawn_from, model_request, model_step, next_bytes, operation_at, stepped_by, world}
 use Rattle.callers.proofs.Failing.{answers_plain, stepped_plainly}
 use Rattle.callers.proofs.Handling.{asked_answered, asked_back, asked_ready, spent_back, steps, still_stand}
+use Rattle.callers.proofs.Rekeying.{rekeyed_steps}
 use Rattle.callers.proofs.caller.Caller.step.Goals as goal
 
 pub give_back-requires-clause-lent : goal.give_back-requires-clause-lent
@@ -15,9 +16,9 @@ returns g c =
     let after = stepped_by c.ask-rank.result.1 (next_bytes x.stream 16) (operation_at r.operations c.args.op) (model_step c.args.step room) in let done = c.step-result.ensures in let stand = still_stand asked.same r.stand in
     let new = c.give_back.new.self in let back = c.give_back.ensures.back in let changed = done.changed r.operations stand in
     let asks = ap (λ call. model_request call room) c.requires.call in record {
-      ready = asked_ready w old x r asked.ranked asked.same c.step-result.new.self c.step-result.new.stream after changed new back done.first done.last asks (λ service. steps service c.args.op c.args.step room asked.same.stream done.first done.last) c.give_back.ensures.at c.give_back.ensures.legal
+      ready = asked_ready w old x r asked.ranked asked.same c.step-result.new.self c.step-result.new.stream after changed new back done.first done.last asks (λ o. stepped_by c.ask-rank.result.1 (next_bytes x.stream 16) o (model_step c.args.step room)) refl (λ key o. rekeyed_steps key c.ask-rank.result.1 (next_bytes x.stream 16) o (model_step c.args.step room)) (λ service. steps service old.number c.args.op c.args.step room asked.same.stream) c.give_back.ensures.at c.give_back.ensures.legal
           (done.stream r.operations stand ∙ ap (λ s. drawn_from s after.drawn) asked.same.stream) (let p = ap (λ x. x.place) (done.few.2 ∙ ap (λ x. drawn_from x done.few.0) asked.same.stream) in let q = done.few.1 in omega arith);
-      answered = asked_answered w old x r asked.ranked asked.same c.step-result.new.self c.step-result.new.stream after changed new back done.first done.last asks (λ service. steps service c.args.op c.args.step room asked.same.stream done.first done.last) result c.args.out.now c.step-result.new.out
+      answered = asked_answered w old x r asked.ranked asked.same c.step-result.new.self c.step-result.new.stream after changed new back done.first done.last asks (λ o. stepped_by c.ask-rank.result.1 (next_bytes x.stream 16) o (model_step c.args.step room)) refl (λ key o. rekeyed_steps key c.ask-rank.result.1 (next_bytes x.stream 16) o (model_step c.args.step room)) (λ service. steps service old.number c.args.op c.args.step room asked.same.stream) result c.args.out.now c.step-result.new.out
           (λ start is. answers_plain result after.reply (done.reply r.operations stand) (stepped_plainly start.store c.ask-rank.result.1 (next_bytes x.stream 16) (operation_at r.operations c.args.op) (model_step c.args.step room)))
           (done.reply r.operations stand) (done.buffer r.operations stand);
       spent = spent_back (record x { handles = c.step-result.new.self; stream = c.step-result.new.stream }) new c.step-result.result.1 back ∙ asked.same.spent;

@@ -1,6 +1,5 @@
 use Rattle.std.proofs.Common.{ap, arith, get_or, refl, set, subst, sym, ◌-◌, ◌<◌, ◌∙◌}
-use Rattle.callers.proofs.Common.{HoldsLease, operation_at}
-use Rattle.callers.specs.HandleCalls.{with_secret}
+use Rattle.callers.proofs.Common.{HoldsLease, operation_at, with_secret}
 use Rattle.callers.proofs.Changing.{kept}
 use Rattle.callers.proofs.handles.Handles.input_key.Goals as goal
 

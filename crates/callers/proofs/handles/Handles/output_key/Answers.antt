@@ -1,6 +1,5 @@
 use Rattle.std.proofs.Common.{None, ap, arith, false, get_or, refl, set, subst, sym, true, ◌-◌, ◌<◌, ◌∙◌, ◌≡◌}
-use Rattle.callers.proofs.Common.{IsChanged, operation_at, stated_bytes}
-use Rattle.callers.specs.HandleCalls.{without_bytes}
+use Rattle.callers.proofs.Common.{IsChanged, operation_at, stated_bytes, without_bytes}
 use Rattle.callers.proofs.Changing.{same_lease}
 use Rattle.callers.proofs.handles.Handles.output_key.Goals as goal
 
