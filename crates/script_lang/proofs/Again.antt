@@ -1,8 +1,6 @@
 -- What is in the grammar is read, and a text that is outside isn't: the answer is its first reason.
 use Rattle.std.proofs.Common.{Err, List, None, Ok, Option, Result, Some, [], ap, append_assoc, arith, false, inl, inr, le-ltb, length, lt-ltb, not, ok_or, refl, subst, suc, sym, true, ℕ, ◌++◌, ◌+◌, ◌∙◌, ◌∷◌, ◌≡◌, ◌⊎◌}
-use Rattle.script_lang.proofs.Common.{AreBadAfter, AreBadFields, AreBadFixed, AreBadWords, AreFields, AreFixed, AreSteps, BadKey, BadLine, Field, FieldValue, Fields, Fixed, IsBadField, IsBadFixed, IsBadValue, IsFault, IsField, IsFixed, IsKeyWord, IsLine, IsScript, IsStep, KeyWord, Kind, Line, MissingField, Places, Read, Reason, RepeatedField, ScriptFault, ScriptLine, Shape, UnknownField, cut_of, demand, field_named, field_value, has_field, has_required, is_allowed, is_name, key_at, line_words, lines_at, no_words, nothing_read, parts_at, read_field, read_fields, read_fixed, row_named, script_of, session_of, text_lines, with_word, words_at}
-use Rattle.std.proofs.lemmas.Bool.{false_from_ne_true}
-use Rattle.std.proofs.lemmas.List.{append-nil}
+use Rattle.script_lang.proofs.Common.{append-nil, AreBadAfter, AreBadFields, AreBadFixed, AreBadWords, AreFields, AreFixed, AreSteps, BadKey, BadLine, cut_of, demand, false_from_ne_true, Field, field_named, field_value, Fields, FieldValue, Fixed, has_field, has_required, is_allowed, is_name, IsBadField, IsBadFixed, IsBadValue, IsFault, IsField, IsFixed, IsKeyWord, IsLine, IsScript, IsStep, key_at, KeyWord, Kind, Line, line_words, lines_at, MissingField, no_words, nothing_read, parts_at, Places, Read, read_field, read_fields, read_fixed, Reason, RepeatedField, row_named, script_of, ScriptFault, ScriptLine, session_of, Shape, text_lines, UnknownField, with_word, words_at}
 use Rattle.script_lang.specs.Steps.{◌>>=◌}
 use Rattle.script_lang.proofs.Ends.{Ends, fails, reads}
 use Rattle.script_lang.proofs.Meant.{field_joined, named_read, row_read}

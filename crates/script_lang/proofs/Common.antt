@@ -32,9 +32,13 @@ pub use Rattle.script_lang.specs.declared.script.KeyWord.TheVariants.{Given, Lin
 pub use Rattle.script_lang.specs.declared.script.ScriptCall.{ScriptCall}
 pub use Rattle.script_lang.specs.declared.script.ScriptLine.{ScriptLine}
 pub use Rattle.std.proofs.lemmas.Bool.Decides.{nat_tests}
-pub use Rattle.std.proofs.lemmas.List.{at_drop_all, length_push}
+pub use Rattle.std.proofs.lemmas.List.{append-nil, at_drop_all, length_push, take-append-drop, take_all}
 pub use Rattle.std.proofs.lemmas.List.Sums.{AllPass-from_list_all, count_by-le-length, length-filter, list_all-from_AllPass, sum_by_push}
 pub use Rattle.std.proofs.lemmas.Slice.Eq.{bytes_eq-Decides}
 pub use Rattle.std.specs.List.{list_all, position_or_len}
 unfoldable pub use Rattle.std.specs.Map.{KeepsOthers}
 pub use Rattle.std.specs.Map.{lookup}
+pub use Rattle.std.proofs.lemmas.Bool.{and_from, and_parts, both_ways, cond-false, cond-true, eqb-false, false_from_ne_true, or_from, or_parts}
+pub use Rattle.std.proofs.lemmas.Option.{cond_some, IfSome_then, none-some, option_and_then_some, same_Some, slice_get_read}
+pub use Rattle.std.specs.Fmt.{decimal}
+pub use Rattle.std.specs.Str.{bytes_eq}

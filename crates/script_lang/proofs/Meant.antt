@@ -1,11 +1,8 @@
 -- A text is read as calls where the grammar says that it says them, and refused where it is outside, for the reason that
 -- is answered.
 use Rattle.std.proofs.Common.{Bool, Err, List, None, Ok, Option, Result, Some, [], ap, append_assoc, ap₂, arith, cond, false, find, inl, inr, length, ltb-false, ltb-true, nat_lt, option_map, refl, subst, suc, sym, true, ℕ, ◌++◌, ◌+◌, ◌==◌, ◌∙◌, ◌∷◌, ◌≡◌, ◌⊎◌}
-use Rattle.script_lang.proofs.Common.{AreBadAfter, AreBadFields, AreBadFixed, AreBadWords, AreFields, AreFixed, AreSteps, BadLine, BadName, BadSession, Field, FieldValue, Fields, Fixed, IsBadField, IsBadFixed, IsFault, IsField, IsFixed, IsRow, IsScript, IsStep, Kind, MissingField, Places, Read, Reason, RepeatedField, ScriptCall, ScriptFault, ScriptLine, Shape, TooLong, TooManyLines, UnknownCommand, UnknownField, all_fields, bytes_eq-Decides, call_of, cut_of, field_name, field_named, or_bad_line, has_field, has_required, is_allowed, is_name, line_words, lines_at, no_words, nothing_read, parts_at, read_field, read_fields, read_fixed, row_named, rows, script_of, session_of, text_lines, with_call, with_word, words_at}
+use Rattle.script_lang.proofs.Common.{all_fields, append-nil, AreBadAfter, AreBadFields, AreBadFixed, AreBadWords, AreFields, AreFixed, AreSteps, BadLine, BadName, BadSession, bytes_eq, bytes_eq-Decides, call_of, cut_of, Field, field_name, field_named, Fields, FieldValue, Fixed, has_field, has_required, is_allowed, is_name, IsBadField, IsBadFixed, IsFault, IsField, IsFixed, IsRow, IsScript, IsStep, Kind, line_words, lines_at, MissingField, no_words, none-some, nothing_read, or_bad_line, parts_at, Places, Read, read_field, read_fields, read_fixed, Reason, RepeatedField, row_named, rows, same_Some, script_of, ScriptCall, ScriptFault, ScriptLine, session_of, Shape, text_lines, TooLong, TooManyLines, UnknownCommand, UnknownField, with_call, with_word, words_at}
 use Rattle.std.proofs.lemmas.Bool.{both_ways, eqb-true}
-use Rattle.std.proofs.lemmas.List.{append-nil}
-use Rattle.std.proofs.lemmas.Option.{none-some, same_Some}
-use Rattle.std.specs.Str.{bytes_eq}
 use Rattle.script_lang.proofs.Ends.{Ends, asked, demanded, denied, fails, found, reads, step, weaker}
 use Rattle.script_lang.proofs.Named.{name_cut, named_again}
 use Rattle.script_lang.proofs.Texts.{handle_ends, key_ends, name_again, name_means, session_again, session_means, value_ends}

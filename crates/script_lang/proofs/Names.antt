@@ -1,8 +1,7 @@
 -- Look-ups by bytes in a map whose keys have bytes.
 use Rattle.std.proofs.Common.{Bool, List, Some, ap, cond, false, refl, sym, true, ℕ, ◌∙◌, ◌≡◌}
-use Rattle.script_lang.proofs.Common.{KeepsOthers, bytes_eq-Decides, lookup}
+use Rattle.script_lang.proofs.Common.{bytes_eq, bytes_eq-Decides, KeepsOthers, lookup}
 use Rattle.std.specs.Cmp.Lexicographic.{nat_list_eq_equiv}
-use Rattle.std.specs.Str.{bytes_eq}
 
 -- after an insertion a name finds what was inserted under its bytes, and else what it found before
 pub inserted : {K X : Type 0} (bytes : K → List ℕ) (name n : List ℕ) (old new : List (K × X)) (v : X) →

@@ -1,8 +1,7 @@
 -- The rows of the program are those of the grammar.
 use Rattle.std.proofs.Common.{Bool, List, Option, Some, [], ap, cond, false, find, map, refl, true, ℕ, ◌∙◌, ◌∷◌, ◌≡◌}
-use Rattle.script_lang.proofs.Common.{rows, shape}
+use Rattle.script_lang.proofs.Common.{bytes_eq, rows, shape}
 use Rattle.std.specs.Option.{option_map}
-use Rattle.std.specs.Str.{bytes_eq}
 use Rattle.script_lang.specs.declared.commands.Row.{Row}
 
 found_or : (b : Bool) (row : Row) (rest : Option Row) → option_map shape (cond b (Some row) rest) ≡ cond b (Some (shape row)) (option_map shape rest)

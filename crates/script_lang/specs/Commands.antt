@@ -1,5 +1,5 @@
 -- The commands: how each is written, a row each, and the call that its line makes.
-use Rattle.std.specs.Prelude.{ℕ, ◌≡◌, true, false, List, [], ◌∷◌, Option, Some, find, slice_index, codes}
+use Rattle.std.specs.Prelude.{ℕ, ◌≡◌, true, false, List, [], ◌∷◌, Some, find, slice_index, codes, Option}
 use Rattle.std.specs.Str.{bytes_eq}
 use Rattle.store_model.specs.Call as store
 use Rattle.store_model.specs.HandleCalls as operation

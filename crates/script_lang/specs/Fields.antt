@@ -1,5 +1,6 @@
 -- The fields of a line.
-use Rattle.std.specs.Prelude.{ℕ, ◌^◌, Bool, not, nat_lt, min, ◌==◌, List, [], ◌∷◌, ◌++◌, length, if◌then◌else◌, ◌||◌, Option, Some, None, option_map, ok_or, find, Result, Ok, codes}
+use Rattle.script_lang.specs.declared.faults.Reason.{Reason}
+use Rattle.std.specs.Prelude.{ℕ, ◌^◌, Bool, not, nat_lt, min, ◌==◌, List, [], ◌∷◌, ◌++◌, length, if◌then◌else◌, ◌||◌, Option, Some, None, option_map, ok_or, find, Ok, codes, Result}
 use Rattle.std.specs.List.{list_any, list_all}
 use Rattle.std.specs.Result.{result_ok}
 use Rattle.std.specs.Str.{bytes_eq}
@@ -9,7 +10,6 @@ use Rattle.script_lang.specs.Numbers.{number, from_least}
 use Rattle.script_lang.specs.Pieces.{cut_of}
 use Rattle.script_lang.specs.Steps.{◌>>=◌, demand}
 use Rattle.script_lang.specs.Shapes.{Shape}
-use Rattle.script_lang.specs.declared.faults.Reason.{Reason}
 use Rattle.script_lang.specs.declared.faults.Reason.TheVariants.{UnknownField, RepeatedField, BadValue}
 use Rattle.script_lang.specs.declared.fields.Field.{Field}
 use Rattle.script_lang.specs.declared.fields.Field.TheVariants as field

@@ -1,11 +1,10 @@
 -- What a script's calls answer, and what is printed of it.
-use Rattle.std.specs.Prelude.{ℕ, zero, suc, ◌≡◌, ◌+◌, ◌==◌, List, [], ◌∷◌, ◌++◌, filter, flat_map, map, slice_get, Ok, All, Option, IfSome, option_map}
+use Rattle.std.specs.Prelude.{ℕ, zero, suc, ◌≡◌, ◌+◌, ◌==◌, List, [], ◌∷◌, ◌++◌, filter, flat_map, slice_get, Option, IfSome, option_map}
 use Rattle.store_model.specs.Call as model
-use Rattle.store_model.specs.Prelude.{Output, Reply, output_bytes, Plain, Service, Entry, outcome_of, reply_at}
+use Rattle.store_model.specs.Prelude.{Output, Reply, output_bytes, Service, Entry, outcome_of, reply_at}
 use Rattle.script_lang.specs.declared.script.ScriptLine.{ScriptLine}
 use Rattle.script_lang.specs.Commands.{request_of}
 use Rattle.script_lang.specs.Replies.{ReplyLine, reply_text}
-use Rattle.script_lang.specs.Lines.{lines_of, script_of}
 
 -- the identifier that a call gave, or 0
 abbrev pub id_given : Output → ℕ
@@ -57,26 +56,10 @@ abbrev pub numbered : ℕ → List Turn → List ReplyLine
 numbered number [] = []
 numbered number (t ∷ ts) = printed number t ∷ numbered (number + 1) ts
 
--- the reply lines of sessions 1 to n
-abbrev pub replies_to : ℕ → List Turn → List ReplyLine
-replies_to zero ts = []
-replies_to (suc n) ts = replies_to n ts ++ numbered 1 (turns_of (suc n) ts)
+-- the reply lines of sessions 1 to n, by the turns of each session
+abbrev pub replies_to : ℕ → (ℕ → List Turn) → List ReplyLine
+replies_to zero own = []
+replies_to (suc n) own = replies_to n own ++ numbered 1 (own (suc n))
 
 abbrev pub text_of : List ReplyLine → List ℕ
 text_of replies = flat_map reply_text replies
-
--- The calls of these lines were made in one common order, a history, and these bytes are its replies: each
--- session's calls are those of its lines, in their order, replayed on the one-thread service from its start.
-pub record AnswersLines (start : Service) (lines : List ScriptLine) (out : List ℕ) : Type 0 where
-  pub history : List Entry
-  pub own : (session : ℕ) → AreCalls [] (lines_of session lines) (turns_of session (turns_from 0 start history))
-  pub plain : All (λ e. e.mark ≡ Plain) history
-  -- one worker makes them in the order of the lines
-  pub line_order : map (λ e. e.caller) history ≡ map (λ line. line.session) lines
-  pub is_out : out ≡ text_of (replies_to 16 (turns_from 0 start history))
-
--- The text reads as lines, and the bytes written answer these.
-pub record IsAnswer (start : Service) (script out : List ℕ) : Type 0 where
-  pub lines : List ScriptLine
-  pub is_script : script_of script ≡ Ok lines
-  pub answers : AnswersLines start lines out

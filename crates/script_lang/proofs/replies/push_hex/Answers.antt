@@ -1,6 +1,5 @@
 use Rattle.std.proofs.Common.{List, [], ap, append_assoc, ap₂, arith, length, refl, sym, ℕ, ◌++◌, ◌∙◌, ◌∷◌, ◌≡◌}
-use Rattle.script_lang.proofs.Common.{encode_lower, encode_with}
-use Rattle.std.proofs.lemmas.List.{append-nil, take-append-drop}
+use Rattle.script_lang.proofs.Common.{append-nil, encode_lower, encode_with, take-append-drop}
 use Rattle.script_lang.proofs.HexText.{encode_joined}
 use Rattle.script_lang.proofs.replies.push_hex.Goals as goal
 

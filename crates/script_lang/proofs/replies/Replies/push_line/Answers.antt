@@ -1,7 +1,6 @@
 use Rattle.std.proofs.Common.{Err, List, Ok, OnOk, Result, ap, append_assoc, codes, refl, sym, ℕ, ◌++◌, ◌∙◌, ◌≡◌}
-use Rattle.script_lang.proofs.Common.{bytes_text, next_line, reply_text, text_in, unranked_text}
+use Rattle.script_lang.proofs.Common.{bytes_text, decimal, next_line, reply_text, text_in, unranked_text}
 use Rattle.std.specs.declared.alloc.AllocError.{AllocError}
-use Rattle.std.specs.Fmt.{decimal}
 use Rattle.psa_status.specs.Status.{status_name}
 use Rattle.script_lang.proofs.replies.Replies.push_line.Goals as goal
 

@@ -1,6 +1,5 @@
 use Rattle.std.proofs.Common.{ap}
-use Rattle.script_lang.proofs.Common.{lookup, places_of}
-use Rattle.std.specs.Str.{bytes_eq}
+use Rattle.script_lang.proofs.Common.{bytes_eq, lookup, places_of}
 use Rattle.script_lang.proofs.sessions.SessionNames.new.Goals as goal
 
 pub returns-clause-places : goal.returns-clause-places
