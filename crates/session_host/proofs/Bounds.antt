@@ -1,7 +1,6 @@
 -- Marks have causes, and so there are no more of them than failures.
-use Rattle.std.proofs.Common.{Bool, List, [], ap, arith, cond, false, refl, subst, true, ℕ, ◌+◌, ◌-◌, ◌<◌, ◌^◌, ◌∷◌, ◌≡◌, ◌≤◌}
-use Rattle.session_host.proofs.Common.{AreBounded, AreRising, Corrupt, Entry, FaultCounts, FaultMark, Hardware, HasFault, IsCaused, Opening, Storage, is_corrupt, is_hardware, is_storage, last_counts, marked, opening_after}
-use Rattle.psa_status.specs.Causes.{Rose}
+use Rattle.std.proofs.Common.{Bool, List, [], ap, arith, cond, false, inl, inr, min, refl, subst, true, ℕ, ◌+◌, ◌-◌, ◌<◌, ◌^◌, ◌∷◌, ◌≡◌, ◌≤◌}
+use Rattle.session_host.proofs.Common.{All-cons, All-nil, AreBounded, ArePlain, AreRising, Corrupt, Entry, FaultCounts, FaultMark, Hardware, HasFault, is_corrupt, is_hardware, is_storage, IsCaused, last_counts, leb_tells, marked, Opening, opening_after, Plain, Rose, Storage}
 
 abbrev one : Bool → ℕ
 one b = cond b 1 0
@@ -64,3 +63,29 @@ bounded tells before h caused rising = record {
   hardware = hardware_bound tells before h caused rising;
   corrupt = λ t. none_corrupt before.counts h (subst (λ b. IsCaused b before.counts h) t caused);
 }
+
+-- COUNTS THAT DON'T RISE
+
+pub stands_still : (before now : ℕ) → (Rose before now → ⊥) → (now ≤ before) × (now < 2 ^ 64 - 1)
+stands_still before now still = elim (leb_tells (min (before + 1) (2 ^ 64 - 1)) now) [
+  | inl rose ↦ absurd (still rose.1)
+  | inr less ↦ (let l = less.1 in omega arith, let l = less.1 in omega arith)
+]
+
+none_more : (b : Bool) (n : ℕ) → one b + n ≤ 0 → b ≡ false
+none_more true n few = absurd (omega arith)
+none_more false n few = refl
+
+unmarked : (mark : FaultMark) → is_storage mark ≡ false → is_hardware mark ≡ false → is_corrupt mark ≡ false → mark ≡ Plain
+unmarked Plain s h c = refl
+unmarked (Storage access) s h c = cc
+unmarked Hardware s h c = cc
+unmarked Corrupt s h c = cc
+
+-- where none is marked, all are plain
+pub all_plain : (h : List Entry) → marked is_storage h ≤ 0 → marked is_hardware h ≤ 0 → marked is_corrupt h ≤ 0 → ArePlain h
+all_plain [] s h c = All-nil (λ e. e.mark ≡ Plain)
+all_plain (e ∷ es) s h c =
+    All-cons (λ e. e.mark ≡ Plain) e es
+    (unmarked e.mark (none_more (is_storage e.mark) (marked is_storage es) s) (none_more (is_hardware e.mark) (marked is_hardware es) h) (none_more (is_corrupt e.mark) (marked is_corrupt es) c))
+    (all_plain es (let a = s in omega arith) (let a = h in omega arith) (let a = c in omega arith))

@@ -1,8 +1,7 @@
 -- The numbers of the sessions that are dealt to a worker.
 use Rattle.std.proofs.Common.{All, Bool, IfSome, List, None, [], ap, append_assoc, arith, cond, eq-eqb, false, get_or, get_or-set_other, get_or-set_same, inl, inr, length, length-append, length-set, ne_eqb, refl, set, subst, suc, sym, take, true, vec_capacity, zero, ℕ, ◌%◌, ◌++◌, ◌+◌, ◌-◌, ◌<◌, ◌==◌, ◌∙◌, ◌∷◌, ◌≡◌, ◌≢◌, ◌≤◌}
-use Rattle.session_host.proofs.Common.{All-nil, All-push, All-set, All-weaker, AreDealt, AreFirstCalls, AreFirstGiven, AreFirstReplies, AreKept, AreTaken, Caller, HasAnswered, HasMade, HasSeated, HasSeen, HaveOwn, IsFree, IsFrom, IsNewCaller, KnowsTurns, Replies, ReplyForm, Session, Worker, World, dealt, entries_of, eqb_tells, failures_of, get_or-map, get_or_append_left, get_or_push, heads, map-append, numbers_of, ranks_of, take_more}
-use Rattle.std.proofs.lemmas.List.{append-nil}
-use Rattle.session_host.proofs.Told.{knows_none}
+use Rattle.session_host.proofs.Common.{All-push, All-set, All-weaker, append-nil, AreDealt, AreKept, AreTaken, AreTurnsIn, Caller, dealt, entries_of, eqb_tells, get_or-map, get_or_append_left, get_or_push, HasAnswered, HasMade, HasSeated, HasSeen, HaveOwn, IsFrom, IsNewCaller, map-append, numbers_of, Replies, ReplyForm, Session, take_more, Worker, World}
+use Rattle.session_host.proofs.Told.{no_turns}
 use Rattle.session_host.specs.Workers as working
 
 abbrev AreApart : List ℕ → Type 0
@@ -116,8 +115,8 @@ pub none_made : {D A C : Type 0} (w : World D A C) (n : ℕ) (c : Caller D A C) 
 none_made w n c new = record {
   ready = new.ready;
   spent = let s = new.spent in omega arith;
-  count = ap length new.uncalled;
-  calls = subst (λ s. KnowsTurns w c.number (entries_of s) (AreFirstCalls [])) (sym new.unseen) (knows_none w c.number (AreFirstCalls []) tt);
+  turns = [];
+  made = subst (λ s. AreTurnsIn w (entries_of s) c.number [] []) (sym new.unseen) (no_turns w c.number);
 }
 
 pub same_long : {D A C : Type 0} (sessions : List (Session D A C)) → length (numbers_of sessions) ≡ length sessions
@@ -125,16 +124,6 @@ same_long [] = refl
 same_long (s ∷ sessions) = ap suc (same_long sessions)
 
 module _ {D A C : Type 0} (w : World D A C) (form : ReplyForm) where
-  -- nothing is dealt yet
-  pub dealing_none : (workers : List (Worker D A C)) → All IsFree workers → IsDealing w form 0 workers
-  dealing_none workers free = record {
-    own = λ i d lt. ap numbers_of (free i d lt).none;
-    fresh = λ i d lt. subst (All (IsFreshSession w form)) (sym (free i d lt).none) (All-nil (IsFreshSession w form));
-    space = λ i d lt. (free i d lt).space;
-    buffer = λ i d lt. (free i d lt).buffer;
-    last = λ i d lt. (free i d lt).fresh;
-  }
-
   pub dealing_one : (j : ℕ) (workers : List (Worker D A C)) (t : Worker D A C) (s : Session D A C) → IsDealing w form j workers → (16 - j) % length workers < length workers →
       ((d : Worker D A C) → HasSeated (get_or workers ((16 - j) % length workers) d) t s) → IsFreshSession w form s → s.caller.number ≡ 16 - j → IsDealing w form (j + 1) (set workers ((16 - j) % length workers) t)
   dealing_one j workers t s h within seated f number =
@@ -147,21 +136,15 @@ module _ {D A C : Type 0} (w : World D A C) (form : ReplyForm) where
       }
 
   none_answered : (s : Session D A C) → IsFreshSession w form s → HasAnswered w [] s
+  unfolding none_made
   none_answered s f = record {
-    made = none_made w f.number s.caller f.caller;
     replies = record {
       told = [];
       kept = f.replies;
       session = f.session;
-      replies = record {
-        count = refl;
-        known = subst (λ v. KnowsTurns w s.caller.number (entries_of v) (AreFirstReplies [])) (sym f.caller.unseen) (knows_none w s.caller.number (AreFirstReplies []) refl);
-        heads = subst (λ v. [] ≡ heads s.caller.number 1 (ranks_of s.caller.number 0 (entries_of v))) (sym f.caller.unseen) refl;
-        failures = λ start is. subst (λ v. [] ≡ failures_of s.caller.number 0 (entries_of v)) (sym f.caller.unseen) refl;
-      };
+      replies = record { made = none_made w f.number s.caller f.caller; printed = refl };
     };
-    given_count = ap length f.given;
-    given = subst (λ v. KnowsTurns w s.caller.number (entries_of v) (AreFirstGiven s.given.items)) (sym f.caller.unseen) (knows_none w s.caller.number (AreFirstGiven s.given.items) refl);
+    given = f.given;
   }
 
   apart_by_numbers : (sessions : List (Session D A C)) (l : List ℕ) → numbers_of sessions ≡ l → AreApart l → working.AreApart sessions

@@ -2,8 +2,7 @@
 
 -- statuses are told apart as the marks are that they come of
 use Rattle.std.proofs.Common.{Bool, List, None, Option, Some, [], ap, ap₂, arith, cond, count_by, eqb, false, leb, map, refl, suc, sum_by, sym, true, zero, ℕ, ◌+◌, ◌∙◌, ◌∷◌, ◌≡◌, ◌≤◌}
-use Rattle.std.proofs.lemmas.Bool.Decides.{nat_tests}
-use Rattle.session_host.proofs.Common.{Corrupt, DataCorrupt, Entry, FaultMark, Hardware, HardwareFailure, LinesAreBounded, Plain, ReplyLine, Status, Storage, StorageAccess, StorageFailure, failure_marked, failure_of, failure_told, failures_of, failures_to, is_corrupt, is_data_corrupt, is_hardware, is_hardware_failure, is_of_fault, is_storage, is_storage_failure, marked, saying, sum_by-append, sum_by-cons}
+use Rattle.session_host.proofs.Common.{Corrupt, DataCorrupt, Entry, failure_marked, failure_of, failure_told, failures_of, failures_to, FaultMark, Hardware, HardwareFailure, is_corrupt, is_data_corrupt, is_hardware, is_hardware_failure, is_of_fault, is_storage, is_storage_failure, LinesAreBounded, marked, nat_tests, of_calls, Plain, ReplyLine, saying, Status, Storage, StorageAccess, StorageFailure, sum_by-append, sum_by-cons}
 
 record Agrees (says : Status → Bool) (marks : FaultMark → Bool) : Type 0 where
   plain : marks Plain ≡ false
@@ -81,13 +80,13 @@ module _ (says : Status → Bool) (marks : FaultMark → Bool) (agrees : Agrees 
   own_more true f fs = sum_by-cons (λ f. once (is_said f)) f fs
   own_more false f fs = omega arith
 
-  next : (n rank : ℕ) (h : List Entry) → upto (suc n) h ≡ upto n h + count_by is_said (failures_of (suc n) rank h)
+  next : (n rank : ℕ) (h : List Entry) → upto (suc n) h ≡ upto n h + count_by is_said (of_calls (λ r e. failure_marked e.mark) (suc n) rank h)
   unfolding one
   next n rank [] = omega arith
   next n rank (e ∷ h) =
       let all = sum_by-cons (λ (e : Entry). cond (leb e.caller (suc n)) (one e) 0) e h in
       let before = sum_by-cons (λ (e : Entry). cond (leb e.caller n) (one e) 0) e h in
-      let own = own_more (eqb e.caller (suc n)) (failure_marked e.mark) (failures_of (suc n) (rank + 1) h) in
+      let own = own_more (eqb e.caller (suc n)) (failure_marked e.mark) (of_calls (λ r e. failure_marked e.mark) (suc n) (rank + 1) h) in
       let here = split e.caller n (one e) in
       let later = next n (rank + 1) h in omega (arith, all, before, own, here, later)
 
@@ -101,7 +100,7 @@ module _ (says : Status → Bool) (marks : FaultMark → Bool) (agrees : Agrees 
   sessions_say : (n : ℕ) (h : List Entry) → count_by is_said (failures_to n h) ≤ upto n h
   sessions_say zero h = omega arith
   sessions_say (suc n) h =
-      let both = sum_by-append (λ f. once (is_said f)) (failures_to n h) (failures_of (suc n) 0 h) in
+      let both = sum_by-append (λ f. once (is_said f)) (failures_to n h) (failures_of (suc n) h) in
       let more = next n 0 h in let fewer = sessions_say n h in omega (arith, both, more, fewer)
 
   -- of sessions 1 to n no more lines say so than there are such marks

@@ -89,9 +89,6 @@ module _ {D A C : Type 0} (w : World D A C) (lines : List ScriptLine) (old new :
       run_of : (i : ℕ) (t : Worker D A C) → i < length new → HaveRun w lines (get_or new i t)
       run_of i t there = (worked i t (omega (arith, there, as_many))).whole (whole i t there)
 
-      made : (k : ℕ) (c : Caller D A C) → k < 16 → HasMade w lines (get_or callers k c)
-      made = each_caller (λ c. HasMade w lines c) (λ i t there k s within. ((run_of i t there).answered k s within).made)
-
       -- what is kept of a session's replies
       of_session : (c : Caller D A C) (k : ℕ) → k < 16 → (r : Replies) → (told : List ReplyLine) × IsKeptAs c k (get_or replies k r) told
       of_session c k within r =
@@ -119,7 +116,6 @@ module _ {D A C : Type 0} (w : World D A C) (lines : List ScriptLine) (old new :
             told = told;
             answered = record {
               sixteen = all.1 ∙ taken.replies_are;
-              made = made;
               replied = λ k d r within.
                   let lt : k < length replies = (let n = taken.replies_are in omega (arith, within)) in
                   let there : k < length callers = (let n = taken.callers_are in omega (arith, within)) in
@@ -168,7 +164,7 @@ module _ {D A C : Type 0} (w : World D A C) (lines : List ScriptLine) (old new :
         seen_by None none = inl none
         seen_by (Some last) there =
             let s : Session D A C = get_or only.sessions.items last (some_of only.sessions.items (let l = there.0 in omega arith)) in
-            let ready = (run.answered last s there.0).made.ready in
+            let ready = (run.answered last s there.0).replies.replies.made.ready in
             let x : Session D A C = get_or only.sessions.items last s in
             let low : 1 ≤ x.caller.number = subst (λ n. 1 ≤ n) ready.number ready.at.first in
             let high : x.caller.number ≤ 16 = ready.last in

@@ -1,13 +1,12 @@
 mod Common
 mod Gathered
-mod Own
 mod Ran
+mod Replayed
 mod Sent
 mod Whole
 pub mod History
 pub mod Order
-pub mod Fronts
-pub mod Heads
+pub mod Places
 pub mod Told
 pub mod Bounds
 pub mod FaultLines

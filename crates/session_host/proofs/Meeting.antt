@@ -1,10 +1,9 @@
 -- Callers that have seen what others of their thread had.
-use Rattle.std.proofs.Common.{List, [], ap, ap₂, arith, get_or, get_or-set_other, get_or-set_same, length, length-set, refl, set, subst, sym, ℕ, ◌<◌, ◌∙◌, ◌∷◌, ◌≡◌}
-use Rattle.session_host.proofs.Common.{AreFirstCalls, AreFirstGiven, AreFirstReplies, AreKept, Caller, ChangesAt, Entry, HasAnswered, HasLearned, IsReady, KnowsTurns, Opened, Replies, ScriptLine, Session, StartsWith, View, World, begins_itself, caller_of, calls_by, entries_of, failure_marked, failures_of, heads, joined, lines_of, ranks_of, seen_begins}
+use Rattle.std.proofs.Common.{List, [], ap, arith, get_or, get_or-set_other, get_or-set_same, length, length-set, refl, set, subst, sym, ℕ, ◌<◌, ◌∙◌, ◌∷◌, ◌≡◌}
+use Rattle.session_host.proofs.Common.{AreKept, AreTurnsIn, Caller, ChangesAt, Entry, HasAnswered, HasLearned, IsReady, Opened, Replies, ScriptLine, Session, StartsWith, View, World, begins_itself, caller_of, calls_by, entries_of, joined, lines_of, seen_begins}
 use Rattle.callers.specs.Parts.{SameButPass}
 use Rattle.std.specs.Global.{Vec}
-use Rattle.session_host.proofs.Heads.{same_later}
-use Rattle.session_host.proofs.Told.{knows_later, own_calls}
+use Rattle.session_host.proofs.Told.{own_calls, turns_later}
 
 module _ {D A C : Type 0} (w : World D A C) where
   -- A CALLER THAT HAS SEEN MORE
@@ -12,36 +11,26 @@ module _ {D A C : Type 0} (w : World D A C) where
   pub learned : (lines : List ScriptLine) (old new : Session D A C) → HasLearned w old new → HasAnswered w lines old → HasAnswered w lines new
   learned lines old new l h =
       let n : ℕ = old.caller.number in let c : Caller D A C = old.caller in let d : Caller D A C = new.caller in
-      let was : calls_by caller_of n (entries_of c.pass.me.0.seen) ≡ c.pass.me.0.calls = own_calls w c h.made.ready in
+      let made = h.replies.replies.made in
+      let was : calls_by caller_of n (entries_of c.pass.me.0.seen) ≡ c.pass.me.0.calls = own_calls w c made.ready in
       let now : calls_by caller_of n (entries_of d.pass.me.0.seen) ≡ d.pass.me.0.calls = subst (λ k. calls_by caller_of k (entries_of d.pass.me.0.seen) ≡ d.pass.me.0.calls) l.number (own_calls w d l.ready) in
-      let same : calls_by caller_of n (entries_of d.pass.me.0.seen) ≡ calls_by caller_of n (entries_of c.pass.me.0.seen) = now ∙ (l.calls ∙ sym was) in
       record {
-        made = record {
-          ready = l.ready;
-          spent = let a = h.made.spent in let b = l.spent in omega arith;
-          count = let a = ap length l.calls in let b = h.made.count in let e = ap (λ k. length (lines_of k lines)) l.number in omega arith;
-          calls = subst (λ k. KnowsTurns w k (entries_of d.pass.me.0.seen) (AreFirstCalls (lines_of k lines))) (sym l.number)
-              (knows_later w n (entries_of d.pass.me.0.seen) (entries_of c.pass.me.0.seen) (AreFirstCalls (lines_of n lines)) l.seen same h.made.calls);
-        };
-        replies = let r = h.replies.replies in record {
+        replies = record {
           told = h.replies.told;
           kept = subst (λ k. AreKept k h.replies.told) (sym l.replies) h.replies.kept;
           session = ap (λ k. k.session) l.replies ∙ (h.replies.session ∙ sym l.number);
           replies = record {
-            count = let b = r.count in let e = ap (λ k. length (lines_of k lines)) l.number in omega arith;
-            known = subst (λ k. KnowsTurns w k (entries_of d.pass.me.0.seen) (AreFirstReplies h.replies.told)) (sym l.number)
-                (knows_later w n (entries_of d.pass.me.0.seen) (entries_of c.pass.me.0.seen) (AreFirstReplies h.replies.told) l.seen same r.known);
-            heads = r.heads
-                ∙ ap₂ (λ k ranks. heads k 1 ranks) (sym l.number)
-                (sym (ap (λ k. ranks_of k 0 (entries_of d.pass.me.0.seen)) l.number ∙ same_later (λ k e. k) n (entries_of c.pass.me.0.seen) (entries_of d.pass.me.0.seen) l.seen same));
-            failures = λ start is. r.failures start is
-                ∙ sym (ap (λ k. failures_of k 0 (entries_of d.pass.me.0.seen)) l.number ∙ same_later (λ k e. failure_marked e.mark) n (entries_of c.pass.me.0.seen) (entries_of d.pass.me.0.seen) l.seen same);
+            made = record {
+              ready = l.ready;
+              spent = let a = made.spent in let b = l.spent in omega arith;
+              turns = made.turns;
+              made = subst (λ k. AreTurnsIn w (entries_of d.pass.me.0.seen) k (lines_of k lines) made.turns) (sym l.number)
+                  (turns_later w n (entries_of d.pass.me.0.seen) (entries_of c.pass.me.0.seen) (lines_of n lines) made.turns l.seen (now ∙ (l.calls ∙ sym was)) made.made);
+            };
+            printed = h.replies.replies.printed;
           };
         };
-        given_count = let a = ap (λ r. length r.items) l.given in let b = h.given_count in let e = ap (λ k. length (lines_of k lines)) l.number in omega arith;
-        given = subst (λ k. KnowsTurns w k (entries_of d.pass.me.0.seen) (AreFirstGiven new.given.items)) (sym l.number)
-            (subst (λ r. KnowsTurns w n (entries_of d.pass.me.0.seen) (AreFirstGiven r.items)) (sym l.given)
-            (knows_later w n (entries_of d.pass.me.0.seen) (entries_of c.pass.me.0.seen) (AreFirstGiven old.given.items) l.seen same h.given));
+        given = ap (λ v. v.items) l.given ∙ h.given;
       }
 
   pub has_learned : (old new : Caller D A C) (replies : Replies) (given : Vec ℕ) (other : View Entry (Opened D A C)) → IsReady w 0 new → new.pass.me.0 ≡ joined old.pass.me.0 other → StartsWith new.pass.me.0.seen old.pass.me.0.seen →

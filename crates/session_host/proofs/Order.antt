@@ -1,7 +1,6 @@
 -- Calls in the order of their lines.
 use Rattle.std.proofs.Common.{Bool, List, [], ap, arith, cond, eq-eqb, eqb, false, inl, inr, length, refl, subst, sym, true, ℕ, ◌++◌, ◌+◌, ◌∷◌, ◌≡◌, ◌≤◌}
-use Rattle.session_host.proofs.Common.{Entry, IsInLineOrder, AreCalledIn, ScriptLine, StartsWith, caller_of, calls_by, choose, lines_of}
-use Rattle.std.proofs.lemmas.List.{append-nil}
+use Rattle.session_host.proofs.Common.{append-nil, AreCalledIn, caller_of, calls_by, choose, Entry, IsInLineOrder, lines_of, ScriptLine, StartsWith}
 
 -- what is within a list is within a longer one
 

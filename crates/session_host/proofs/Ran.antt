@@ -1,14 +1,13 @@
 -- What is known of a run, from its opening, its callers and its close.
-use Rattle.std.proofs.Common.{All, List, arith, is_some, subst, take, ℕ, ◌≡◌}
-use Rattle.session_host.proofs.Common.{AreBounded, Caller, FaultCounts, HaveAnswered, HaveMade, HaveSeen, IsBroken, IsOfSession, IsOpening, IsRun, Opened, Opening, ReplyLine, ScriptLine, World, all_replies, opening_of, world_of}
+use Rattle.std.proofs.Common.{All, List, ap, arith, is_some, map, subst, true, ℕ, ◌∙◌, ◌≡◌}
+use Rattle.session_host.proofs.Common.{all_replies, AreAnswered, AreBounded, ArePlain, Caller, failure_of, FaultCounts, HaveAnswered, HaveMade, HaveSeen, IsBroken, IsOfSession, IsOpening, IsRun, lines_of, Opened, Opening, opening_of, ReplyLine, Rose, ScriptLine, Turn, World, world_of}
 use Rattle.atomic_table.specs.Seated.{TableId}
 use Rattle.policy_rules.specs.declared.narrowing.Label.{Label}
 use Rattle.caller_service.specs.Closing.{IsClosedOver}
-use Rattle.session_host.proofs.Bounds.{bounded}
+use Rattle.session_host.proofs.Bounds.{all_plain, bounded, stands_still}
 use Rattle.session_host.proofs.FaultLines.{bounded_lines}
-use Rattle.session_host.specs.Runs.{AreAnswered}
 use Rattle.session_host.proofs.Gathered.{some_of}
-use Rattle.session_host.proofs.Whole.{all_calls, failures_are, first_calls, heads_are, line_order, replies_are, replies_so_far, whole_calls}
+use Rattle.session_host.proofs.Whole.{first_calls, line_order, own_turns, replies_are, replies_tell, turns}
 use Rattle.disk_face.specs.declared.Disk as Disk
 use Rattle.driver_dispatch.specs.declared.devices.Devices as Devices
 use Rattle.admission.specs.declared.rules.Admission as Admission
@@ -37,32 +36,37 @@ module _ {D A C : Type 0} (disks : Disk.Ghosts D) (elements : Devices.Ghosts A) 
       (subst (λ c. AreBounded (is_some (disks.contents opened.file.value.cells.disk)) before.counts c closed.history) closed.left.counts
       (bounded (is_some (disks.contents opened.file.value.cells.disk)) before closed.history closed.left.legal.caused closed.left.legal.rising))
 
+  plain : is_some (disks.contents disk) ≡ true → (Rose (disks.faults disk) after.faults → ⊥) → (Rose (elements.faults devices) after.device_faults → ⊥) → ArePlain closed.history
+  plain tells calm still =
+      let d = stands_still (disks.faults disk) after.faults calm in let e = stands_still (elements.faults devices) after.device_faults still in
+      let same : elements.faults opened.devices.value ≡ elements.faults devices = ap elements.faults opening.devices_are in
+      all_plain closed.history (let a = few_marks.storage d.1 in let b = opening.later in let l = d.0 in omega (arith, a, b, l)) (let a = few_marks.hardware e.1 in let l = e.0 in omega (arith, a, l, same))
+      (let a = few_marks.corrupt tells in omega (arith, a))
+
   pub a_run : IsRun disks elements admits disk devices named seed disk_after devices_after
-  a_run = record { lock = lock; opened = opened; opening = opening; history = closed.history; left = closed.left; bounded = few_marks }
+  a_run = record { lock = lock; opened = opened; opening = opening; history = closed.history; left = closed.left; bounded = few_marks; plain = plain }
 
   pub broken : IsBroken disks elements admits disk devices named seed lines disk_after devices_after
   unfolding a_run
   broken = record {
     run = a_run;
-    calls = λ session. (let f = first_calls w lines callers closed.history made.are.sixteen made.are.numbers sessions closed.left.signed closed.seen closed.called made.each d session in (
-      f.0,
-      f.1.0,
-      whole_calls w lines callers closed.history made.are.sixteen made.are.numbers sessions closed.left.signed closed.seen closed.called session (take f.0 lines) f.1,
-      f.1.1,
-    ));
+    calls = first_calls w lines callers closed.history made.are.sixteen made.are.numbers sessions closed.left.signed closed.seen closed.called made.each d;
   }
 
   pub answered : (replies : List (List ReplyLine)) (workers : ℕ) → HaveAnswered w lines callers replies → (workers ≡ 1 → HaveSeen lines callers) →
       AreAnswered disks elements admits disk devices named seed workers lines (all_replies replies) disk_after devices_after
   unfolding a_run
-  answered replies workers h one = record {
-    run = a_run;
-    counts = λ session. (all_calls w lines callers closed.history made.are.sixteen made.are.numbers sessions closed.left.signed closed.seen closed.called h.made d session).0;
-    heads = heads_are w lines callers closed.history made.are.sixteen made.are.numbers sessions closed.left.signed closed.seen closed.called replies d h;
-    answers = λ tells start is known. replies_are w lines callers closed.history made.are.sixteen made.are.numbers sessions closed.left.signed closed.seen closed.called replies d h tells start is known;
-    so_far = λ tells start is beginning begins known. replies_so_far w lines callers closed.history made.are.sixteen made.are.numbers sessions closed.left.signed closed.seen closed.called replies d
-        (some_of replies (let n = h.sixteen in omega arith)) h tells start is beginning begins known;
-    failures = bounded_lines (is_some (disks.contents disk)) before.counts after closed.history 16 (all_replies replies) few_marks
-        (failures_are w lines callers closed.history made.are.sixteen made.are.numbers sessions closed.left.signed closed.seen closed.called replies d h opening.start opening.starts);
-    line_order = λ is. line_order w lines callers closed.history made.are.sixteen made.are.numbers sessions closed.left.signed closed.seen closed.called d h.made (one is);
-  }
+  answered replies workers h one =
+      let r : List ReplyLine = some_of replies (let n = h.sixteen in omega arith) in
+      let own_turns = own_turns w lines callers closed.history made.are.sixteen made.are.numbers sessions closed.left.signed closed.seen closed.called replies d r h in
+      let turns : ℕ → List Turn = turns w lines callers closed.history made.are.sixteen made.are.numbers sessions closed.left.signed closed.seen closed.called replies d r h in
+      let printed = replies_are w lines callers closed.history made.are.sixteen made.are.numbers sessions closed.left.signed closed.seen closed.called replies d r h in
+      record {
+        run = a_run;
+        turns = turns;
+        own = own_turns;
+        printed = printed;
+        failures = bounded_lines (is_some (disks.contents disk)) before.counts after closed.history 16 (all_replies replies) few_marks
+            (ap (map failure_of) printed ∙ replies_tell w opening.start opening.starts closed.history (λ session. lines_of session lines) turns own_turns 16);
+        line_order = λ is. line_order w lines callers closed.history made.are.sixteen made.are.numbers sessions closed.left.signed closed.seen closed.called replies d r h (one is);
+      }

@@ -1,13 +1,10 @@
 -- From what callers know, and from what a closed service says, to the one order of a script's calls.
-use Rattle.std.proofs.Common.{All, List, [], ap, append_assoc, arith, cond, eqb, false, flat_map, get_or, inl, inr, length, map, ne_eqb, refl, subst, suc, sym, take, take_all, ℕ, ◌++◌, ◌+◌, ◌-◌, ◌<◌, ◌∙◌, ◌∷◌, ◌≡◌, ◌≤◌, ◌⊎◌}
-use Rattle.session_host.proofs.Common.{All-head, All-nil, All-tail, AreCalls, AreFirstCalls, AreFirstReplies, AreReplies, AreRepliesSoFar, Caller, ElementTells, Entry, HasMade, HaveAnswered, HaveSeen, IsInLineOrder, IsOfSession, IsToldTo, AreCalledIn, KnowsTurns, ReplyLine, ScriptLine, Service, Starts, StartsWith, Turn, World, all_replies, begins_itself, caller_of, calls_by, choose, entries_of, eqb_tells, failure_marked, failure_of, failures_of, failures_to, head_of, heads, heads_to, leb_tells, lines_of, map-append, numbered, ranks_of, replies_of, replies_to, session_turns, turns_from, turns_of}
-use Rattle.std.proofs.lemmas.List.{append-nil}
-use Rattle.session_host.proofs.Fronts.{first_whole}
-use Rattle.session_host.proofs.History.{as_many_turns, chosen_length}
-use Rattle.session_host.proofs.Heads.{same_later}
+use Rattle.std.proofs.Common.{All, List, [], ap, append_assoc, arith, cond, eqb, false, flat_map, get_or, inl, inr, length, map, ne_eqb, refl, subst, suc, sym, take, zero, ℕ, ◌++◌, ◌+◌, ◌-◌, ◌<◌, ◌∙◌, ◌∷◌, ◌≡◌, ◌≤◌, ◌⊎◌}
+use Rattle.session_host.proofs.Common.{All-head, All-nil, All-tail, all_replies, append-nil, AreCalledIn, AreTurnsIn, Caller, caller_of, calls_by, choose, entries_of, Entry, eqb_tells, failure_marked, failure_of, failure_told, failures_of, failures_to, get_or_default, HasMade, HaveAnswered, HaveSeen, IsInLineOrder, IsOfSession, IsTurnIn, leb_tells, length-map, lines_of, map-append, numbered, ranked_call, replies_to, ReplyLine, ScriptLine, Service, Starts, StartsWith, Turn, World}
+use Rattle.session_host.proofs.History.{calls_length}
+use Rattle.session_host.proofs.Places.{as_many, map_of_calls}
 use Rattle.session_host.proofs.Order.{in_line_order, within_whole}
-use Rattle.session_host.proofs.Told.{knows_later, knows_none, own_calls}
-use Rattle.session_host.proofs.Own.{HaveHeads, own_replies}
+use Rattle.session_host.proofs.Told.{no_turns, own_calls, turns_later}
 
 -- SESSIONS THAT THERE ARE, AND OTHERS
 
@@ -65,15 +62,35 @@ by_session own of upto one n (x ∷ xs) h =
     ∙ by_session own of upto one (suc n) xs (λ i y below. h (suc i) y (omega (arith, below)) ∙ ap of (let e : n + suc i + 1 ≡ suc n + i + 1 = omega arith in e))
     ∙ ap upto all
 
-map_flat : {X Y Z : Type 0} (f : Y → Z) (own : X → List Y) (xs : List X) → map f (flat_map own xs) ≡ flat_map (λ x. map f (own x)) xs
-map_flat f own [] = refl
-map_flat f own (x ∷ xs) = map-append f (own x) (flat_map own xs) ∙ ap (λ l. map f (own x) ++ l) (map_flat f own xs)
+-- the failures of which a session's reply lines tell
+lines_tell : (n : ℕ) (turns : List Turn) → map failure_of (numbered n turns) ≡ map (λ t. failure_told t.reply.status) turns
+lines_tell n [] = refl
+lines_tell n (t ∷ turns) = ap (λ fs. failure_told t.reply.status ∷ fs) (lines_tell (n + 1) turns)
 
--- as many ranks as calls
-as_many_ranks : (session rank : ℕ) (h : List Entry) → length (ranks_of session rank h) ≡ length (calls_by caller_of session h)
-as_many_ranks session rank [] = refl
-as_many_ranks session rank (e ∷ h) =
-    chosen_length (eqb e.caller session) e (calls_by caller_of session h) rank (ranks_of session (rank + 1) h) (as_many_ranks session (rank + 1) h)
+module _ {D A C : Type 0} (w : World D A C) (start : Service) (is : Starts w start) (history : List Entry) where
+  turns_tell : (turns : List Turn) → All (IsTurnIn w history) turns → map (λ t. failure_told t.reply.status) turns ≡ map (λ t. failure_marked t.entry.mark) turns
+  turns_tell [] all = refl
+  turns_tell (t ∷ turns) all = λ i. (All-head (IsTurnIn w history) t turns all).reply.failure start is i ∷ turns_tell turns (All-tail (IsTurnIn w history) t turns all) i
+
+  map_again : {X Y Z : Type 0} (f : Y → Z) (g : X → Y) (xs : List X) → map (λ x. f (g x)) xs ≡ map f (map g xs)
+  map_again f g [] = refl
+  map_again f g (x ∷ xs) = ap (λ l. f (g x) ∷ l) (map_again f g xs)
+
+  session_tells : (session : ℕ) (lines : List ScriptLine) (turns : List Turn) → AreTurnsIn w history session lines turns → map failure_of (numbered 1 turns) ≡ failures_of session history
+  session_tells session lines turns are =
+      lines_tell 1 turns
+      ∙ (turns_tell turns are.each
+      ∙ (map_again (λ (p : ℕ × Entry). failure_marked p.1.mark) ranked_call turns
+      ∙ (ap (map (λ (p : ℕ × Entry). failure_marked p.1.mark)) are.placed
+      ∙ map_of_calls (λ (p : ℕ × Entry). failure_marked p.1.mark) (λ rank e. (rank, e)) session 0 history)))
+
+  -- reply lines tell of the failures that the history's marks are of
+  pub replies_tell : (lines : ℕ → List ScriptLine) (turns : ℕ → List Turn) → ((session : ℕ) → AreTurnsIn w history session (lines session) (turns session)) → (n : ℕ) →
+      map failure_of (replies_to n turns) ≡ failures_to n history
+  replies_tell lines turns are zero = refl
+  replies_tell lines turns are (suc n) =
+      map-append failure_of (replies_to n turns) (numbered 1 (turns (suc n)))
+      ∙ (λ i. replies_tell lines turns are n i ++ session_tells (suc n) (lines (suc n)) (turns (suc n)) (are (suc n)) i)
 
 -- THE ONE ORDER
 
@@ -92,149 +109,82 @@ module _ {D A C : Type 0} (w : World D A C) (lines : List ScriptLine) (callers :
       let there : calls_by caller_of c.pass.me.0.number history ≡ c.pass.me.0.calls = called k d (omega (arith, within, sixteen)) in
       subst (λ n. calls_by caller_of n history ≡ c.pass.me.0.calls) made.ready.number there ∙ sym (own_calls w c made.ready)
 
-  knows : (ran : List ScriptLine) (k : ℕ) (d : Caller D A C) (P : List Turn → Type 0) → k < 16 → HasMade w ran (get_or callers k d) →
-      KnowsTurns w (get_or callers k d).number (entries_of (get_or callers k d).pass.me.0.seen) P → KnowsTurns w (k + 1) history P
-  knows ran k d P within made known =
-      let c : Caller D A C = get_or callers k d in
-      subst (λ n. KnowsTurns w n history P) (numbers k d within)
-      (knows_later w c.number history (entries_of c.pass.me.0.seen) P (seen k d (omega (arith, within, sixteen))) (same_calls ran k d within made) known)
-
-  none_there : (session : ℕ) (P : List Turn → Type 0) → IsOther session → P [] → KnowsTurns w session history P
-  none_there session P other none = knows_later w session history [] P (history, refl) (no_entries session history other signed) (knows_none w session P none)
-
-  -- what is known of a session's calls, which are those of its lines among these
-  abbrev pub CallsAmong : ℕ → List ScriptLine → Type 0
-  CallsAmong session ran = (length (ranks_of session 0 history) ≡ length (lines_of session ran))
-      × KnowsTurns w session history (AreFirstCalls (lines_of session ran))
-
-  by_caller : (session : ℕ) (ran : List ScriptLine) (k : ℕ) (d : Caller D A C) → k < 16 → k + 1 ≡ session → HasMade w ran (get_or callers k d) → CallsAmong session ran
+  -- a caller's turns are its session's in the history
+  by_caller : (session : ℕ) (ran : List ScriptLine) (k : ℕ) (d : Caller D A C) → k < 16 → k + 1 ≡ session → (m : HasMade w ran (get_or callers k d)) → AreTurnsIn w history session (lines_of session ran) m.turns
   by_caller session ran k d within is m =
       let c : Caller D A C = get_or callers k d in
-      let same : c.number ≡ session = numbers k d within ∙ is in
-      let there : calls_by caller_of c.pass.me.0.number history ≡ c.pass.me.0.calls = called k d (omega (arith, within, sixteen)) in
-      let mine : calls_by caller_of session history ≡ c.pass.me.0.calls = subst (λ s. calls_by caller_of s history ≡ c.pass.me.0.calls) (m.ready.number ∙ same) there in (
-        as_many_ranks session 0 history ∙ (ap length mine ∙ (m.count ∙ ap (λ s. length (lines_of s ran)) same)),
-        subst (λ s. KnowsTurns w s history (AreFirstCalls (lines_of session ran))) is
-            (knows ran k d (AreFirstCalls (lines_of session ran)) within m
-            (subst (λ s. KnowsTurns w c.number (entries_of c.pass.me.0.seen) (AreFirstCalls (lines_of s ran))) same m.calls)),
-      )
+      subst (λ s. AreTurnsIn w history s (lines_of s ran) m.turns) (numbers k d within ∙ is)
+      (turns_later w c.number history (entries_of c.pass.me.0.seen) (lines_of c.number ran) m.turns (seen k d (omega (arith, within, sixteen))) (same_calls ran k d within m) m.made)
 
-  by_none : (session : ℕ) (ran : List ScriptLine) → IsOther session → All IsOfSession ran → CallsAmong session ran
-  by_none session ran other all = (
-    as_many_ranks session 0 history ∙ (ap length (no_entries session history other signed) ∙ ap length (sym (no_lines session ran other all))),
-    none_there session (AreFirstCalls (lines_of session ran)) other tt,
-  )
-
-  -- each session's calls are those of its lines
-  pub all_calls : ((k : ℕ) (d : Caller D A C) → k < 16 → HasMade w lines (get_or callers k d)) → (d : Caller D A C) → (session : ℕ) → CallsAmong session lines
-  all_calls made d session = elim (which session) [
-    | inl own ↦ let k : ℕ = session - 1 in let within : k < 16 = omega (arith, own.0, own.1) in by_caller session lines k d within (let l = own.0 in omega arith) (made k d within)
-    | inr other ↦ by_none session lines other sessions
-  ]
+  by_none : (session : ℕ) (ran : List ScriptLine) → IsOther session → All IsOfSession ran → AreTurnsIn w history session (lines_of session ran) []
+  by_none session ran other all =
+      subst (λ ls. AreTurnsIn w history session ls []) (sym (no_lines session ran other all))
+      (turns_later w session history [] [] [] (history, refl) (no_entries session history other signed) (no_turns w session))
 
   -- each session's calls are those of the first so many lines
-  pub first_calls : ((k : ℕ) (d : Caller D A C) → k < 16 → (n : ℕ) × HasMade w (take n lines) (get_or callers k d)) → (d : Caller D A C) → (session : ℕ) → (n : ℕ) × CallsAmong session (take n lines)
+  pub first_calls : ((k : ℕ) (d : Caller D A C) → k < 16 → (n : ℕ) × HasMade w (take n lines) (get_or callers k d)) → (d : Caller D A C) → (session : ℕ) →
+      (n : ℕ) × (turns : List Turn) × AreTurnsIn w history session (lines_of session (take n lines)) turns
   first_calls made d session = elim (which session) [
     | inl own ↦
         let k : ℕ = session - 1 in let within : k < 16 = omega (arith, own.0, own.1) in let m = made k d within in
-        (m.0, by_caller session (take m.0 lines) k d within (let l = own.0 in omega arith) m.1)
-    | inr other ↦ (0, by_none session [] other (All-nil IsOfSession))
+        (m.0, m.1.turns, by_caller session (take m.0 lines) k d within (let l = own.0 in omega arith) m.1)
+    | inr other ↦ (0, [], by_none session [] other (All-nil IsOfSession))
   ]
 
-  -- where the whole history is told, they are those of all these lines
+  -- where all lines were run, a session's turns, and the reply lines that are printed of them
+  pub record HasTurns (told : List (List ReplyLine)) (session : ℕ) : Type 0 where
+    pub turns : List Turn
+    pub own : AreTurnsIn w history session (lines_of session lines) turns
+    pub printed : (k : ℕ) (r : List ReplyLine) → k < 16 → k + 1 ≡ session → get_or told k r ≡ numbered 1 turns
 
-  as_many : (session : ℕ) (ran : List ScriptLine) (start : Service) → CallsAmong session ran → length (session_turns session start history) ≡ length (lines_of session ran)
-  as_many session ran start c = as_many_turns session 0 start history ∙ (sym (as_many_ranks session 0 history) ∙ c.0)
-
-  pub whole_calls : (session : ℕ) (ran : List ScriptLine) → CallsAmong session ran → ElementTells w → (start : Service) → Starts w start → IsToldTo w start history →
-      AreCalls [] (lines_of session ran) (session_turns session start history)
-  whole_calls session ran c tells start is told =
-      let ts : List Turn = session_turns session start history in
-      subst (λ ls. AreCalls [] ls ts) (take_all (length ts) (lines_of session ran) (omega (arith, as_many session ran start c))) (c.1 tells start is history (begins_itself history) told)
-
-  counts_agree : ((k : ℕ) (d : Caller D A C) → k < 16 → HasMade w lines (get_or callers k d)) → (d : Caller D A C) → (n : ℕ) → length (lines_of n lines) ≡ length (calls_by caller_of n history)
-  counts_agree made d n = sym (all_calls made d n).0 ∙ as_many_ranks n 0 history
-
-  all_numbers : (replies : List (List ReplyLine)) → length replies ≡ 16 → 0 + length replies ≡ 16
-  all_numbers replies h = omega (arith, h)
-
-  -- these are the replies of the one order
-  pub replies_are : (replies : List (List ReplyLine)) (d : Caller D A C) → HaveAnswered w lines callers replies → ElementTells w → (start : Service) → Starts w start → IsToldTo w start history →
-      AreReplies start lines history (all_replies replies)
-  replies_are replies d h tells start is told =
-      let ts : List Turn = turns_from 0 start history in record {
-        own = λ session. whole_calls session lines (all_calls h.made d session) tells start is told;
-        all = by_session (λ (r : List ReplyLine). r) (λ n. numbered 1 (turns_of n ts)) (λ n. replies_to n ts) (λ n. refl) 0 replies (λ i r below.
-            let within : i < 16 = omega (arith, below, h.sixteen) in
-            let place : i + 1 ≡ 0 + i + 1 = omega arith in
-            let own : List Turn = turns_of (i + 1) ts in
-            let count = (h.replied i d r within).count ∙ (ap (λ n. length (lines_of n lines)) (numbers i d within) ∙ sym (as_many (i + 1) lines start (all_calls h.made d (i + 1)))) in
-            first_whole (length own) (get_or replies i r) (numbered 1 own)
-            (knows lines i d (AreFirstReplies (get_or replies i r)) within (h.made i d within) (h.replied i d r within).known tells start is history (begins_itself history) told) count
-            ∙ ap (λ s. numbered 1 (turns_of s ts)) place)
-            ∙ ap (λ n. replies_to n ts) (all_numbers replies h.sixteen);
-      }
-
-  -- and of each beginning of it
-
-  have_heads : (replies : List (List ReplyLine)) (d : Caller D A C) → HaveAnswered w lines callers replies → HaveHeads 0 replies
-  have_heads replies d h i r below =
-      let within : i < 16 = omega (arith, below, h.sixteen) in
-      let c : Caller D A C = get_or callers i d in
-      let ranks : List ℕ = ranks_of c.number 0 (entries_of c.pass.me.0.seen) in
-      let number : c.number ≡ 0 + i + 1 = numbers i d within ∙ (let e : i + 1 ≡ 0 + i + 1 = omega arith in e) in
-      (ranks, (h.replied i d r within).heads ∙ ap (λ n. heads n 1 ranks) number)
-
-  first_replies : (replies : List (List ReplyLine)) (d : Caller D A C) (r : List ReplyLine) → HaveAnswered w lines callers replies → (session : ℕ) →
-      KnowsTurns w session history (AreFirstReplies (replies_of session (all_replies replies)))
-  first_replies replies d r h session = elim (which session) [
+  pub turns_of_session : (told : List (List ReplyLine)) (d : Caller D A C) (r : List ReplyLine) → HaveAnswered w lines callers told → (session : ℕ) → HasTurns told session
+  unfolding IsOther
+  turns_of_session told d r h session = elim (which session) [
     | inl own ↦
-        let k : ℕ = session - 1 in let within : k < 16 = omega (arith, own.0, own.1) in
-        let below : k < length replies = omega (arith, within, h.sixteen) in
-        let place : 0 + k + 1 ≡ session = (let l = own.0 in omega arith) in let same : k + 1 ≡ session = (let l = own.0 in omega arith) in
-        let mine : replies_of session (all_replies replies) ≡ (get_or replies k r) =
-        ap (λ s. replies_of s (all_replies replies)) (sym place) ∙ own_replies 0 k replies r below (have_heads replies d h) in
-        subst (λ rs. KnowsTurns w session history (AreFirstReplies rs)) (sym mine)
-        (subst (λ s. KnowsTurns w s history (AreFirstReplies (get_or replies k r))) same
-        (knows lines k d (AreFirstReplies (get_or replies k r)) within (h.made k d within) (h.replied k d r within).known))
-    | inr other ↦ none_there session (AreFirstReplies (replies_of session (all_replies replies))) other refl
+        let k : ℕ = session - 1 in let within : k < 16 = omega (arith, own.0, own.1) in let is : k + 1 ≡ session = (let l = own.0 in omega arith) in
+        let replied = h.replied k d r within in record {
+          turns = replied.made.turns;
+          own = by_caller session lines k d within is replied.made;
+          printed = λ j s below same.
+              let at : j ≡ k = omega (arith, is, same) in
+              subst (λ i. get_or told i s ≡ numbered 1 replied.made.turns) (sym at)
+              (sym (get_or_default told k r s (let n = h.sixteen in omega (arith, within))) ∙ replied.printed);
+        }
+    | inr other ↦ record {
+      turns = [];
+      own = by_none session lines other sessions;
+      printed = λ k r below same. absurd (outside session other k below same);
+    }
   ]
+    where
+      outside : (session : ℕ) → IsOther session → (k : ℕ) → k < 16 → k + 1 ≡ session → ⊥
+      outside session (inl none) k below same = absurd (omega (arith, none, same))
+      outside session (inr above) k below same = absurd (omega (arith, below, same, above))
 
-  pub replies_so_far : (replies : List (List ReplyLine)) (d : Caller D A C) (r : List ReplyLine) → HaveAnswered w lines callers replies → ElementTells w → (start : Service) → Starts w start →
-      (beginning : List Entry) → StartsWith history beginning → IsToldTo w start beginning → AreRepliesSoFar start lines beginning (all_replies replies)
-  replies_so_far replies d r h tells start is beginning begins told = record {
-    own = λ session. (all_calls h.made d session).1 tells start is beginning begins told;
-    all = λ session. first_replies replies d r h session tells start is beginning begins told;
-  }
+  module _ (told : List (List ReplyLine)) (d : Caller D A C) (r : List ReplyLine) (h : HaveAnswered w lines callers told) where
+    abbrev pub turns : (session : ℕ) → List Turn
+    turns session = (turns_of_session told d r h session).turns
 
-  -- their heads are those of the one order
-  pub heads_are : (replies : List (List ReplyLine)) (d : Caller D A C) → HaveAnswered w lines callers replies → map head_of (all_replies replies) ≡ heads_to 16 history
-  heads_are replies d h =
-      map_flat head_of (λ (r : List ReplyLine). r) replies
-      ∙ by_session (λ (r : List ReplyLine). map head_of r) (λ n. heads n 1 (ranks_of n 0 history)) (λ n. heads_to n history) (λ n. refl) 0 replies (λ i r below.
-      let within : i < 16 = omega (arith, below, h.sixteen) in
-      let c : Caller D A C = get_or callers i d in
-      let number : c.number ≡ 0 + i + 1 = numbers i d within ∙ (let e : i + 1 ≡ 0 + i + 1 = omega arith in e) in
-      (h.replied i d r within).heads
-      ∙ ap (heads c.number 1) (sym (same_later (λ k e. k) c.number (entries_of c.pass.me.0.seen) history (seen i d (omega (arith, within, sixteen))) (same_calls lines i d within (h.made i d within))))
-      ∙ ap (λ n. heads n 1 (ranks_of n 0 history)) number)
-      ∙ ap (λ n. heads_to n history) (all_numbers replies h.sixteen)
+    pub own_turns : (session : ℕ) → AreTurnsIn w history session (lines_of session lines) (turns session)
+    own_turns session = (turns_of_session told d r h session).own
 
-  -- and they tell of the failures that its marks are of
-  pub failures_are : (replies : List (List ReplyLine)) (d : Caller D A C) → HaveAnswered w lines callers replies → (start : Service) → Starts w start → map failure_of (all_replies replies) ≡ failures_to 16 history
-  failures_are replies d h start is =
-      map_flat failure_of (λ (r : List ReplyLine). r) replies
-      ∙ by_session (λ (r : List ReplyLine). map failure_of r) (λ n. failures_of n 0 history) (λ n. failures_to n history) (λ n. refl) 0 replies (λ i r below.
-      let within : i < 16 = omega (arith, below, h.sixteen) in
-      let c : Caller D A C = get_or callers i d in
-      let number : c.number ≡ 0 + i + 1 = numbers i d within ∙ (let e : i + 1 ≡ 0 + i + 1 = omega arith in e) in
-      (h.replied i d r within).failures start is
-      ∙ sym (same_later (λ k e. failure_marked e.mark) c.number (entries_of c.pass.me.0.seen) history (seen i d (omega (arith, within, sixteen))) (same_calls lines i d within (h.made i d within)))
-      ∙ ap (λ n. failures_of n 0 history) number)
-      ∙ ap (λ n. failures_to n history) (all_numbers replies h.sixteen)
+    -- these are the replies of the one order
+    pub replies_are : all_replies told ≡ replies_to 16 turns
+    replies_are =
+        by_session (λ (x : List ReplyLine). x) (λ n. numbered 1 (turns n)) (λ n. replies_to n turns) (λ n. refl) 0 told (λ i x below.
+        let within : i < 16 = omega (arith, below, h.sixteen) in
+        (turns_of_session told d r h (0 + i + 1)).printed i x within (let e : i + 1 ≡ 0 + i + 1 = omega arith in e))
+        ∙ ap (λ n. replies_to n turns) (let e : 0 + length told ≡ 16 = omega (arith, h.sixteen) in e)
 
-  -- one worker makes the calls in the order of the lines
-  pub line_order : (d : Caller D A C) → ((k : ℕ) (d : Caller D A C) → k < 16 → HasMade w lines (get_or callers k d)) → HaveSeen lines callers → IsInLineOrder lines history
-  line_order d made (inl none) = in_line_order lines history (subst (λ ls. AreCalledIn ls history) (sym none) tt) (counts_agree made d)
-  line_order d made (inr there) =
-      in_line_order lines history (within_whole lines history (entries_of (get_or callers there.0 d).pass.me.0.seen) (seen there.0 d there.1) (there.2 d)) (counts_agree made d)
+    pub counts_agree : (n : ℕ) → length (lines_of n lines) ≡ length (calls_by caller_of n history)
+    counts_agree n =
+        let own = own_turns n in
+        calls_length [] (lines_of n lines) (turns n) own.calls
+        ∙ (sym (length-map (turns n) ranked_call)
+        ∙ (ap length own.placed ∙ as_many (λ rank e. (rank, e)) n 0 history))
+
+    -- one worker makes the calls in the order of the lines
+    pub line_order : HaveSeen lines callers → IsInLineOrder lines history
+    line_order (inl none) = in_line_order lines history (subst (λ ls. AreCalledIn ls history) (sym none) tt) counts_agree
+    line_order (inr there) =
+        in_line_order lines history (within_whole lines history (entries_of (get_or callers there.0 d).pass.me.0.seen) (seen there.0 d there.1) (there.2 d)) counts_agree

@@ -1,10 +1,10 @@
 -- The sessions of a thread, as a line is run.
 use Rattle.std.proofs.Common.{All, Err, IfOk, IfSome, List, MatchResult, None, Ok, Option, Result, Some, [], ap, ap₂, arith, false, get_or, get_or-set_other, get_or-set_same, inl, inr, length, length-append, length-set, map, refl, set, subst, suc, sym, take, ℕ, ◌++◌, ◌+◌, ◌-◌, ◌<◌, ◌==◌, ◌^◌, ◌∙◌, ◌∷◌, ◌≡◌, ◌≢◌, ◌≤◌, ◌⊎◌}
-use Rattle.session_host.proofs.Common.{AreApart, AreKept, ChangesAt, GoesFurther, HasAnswered, HasLearned, HasMade, HasSeen, HasWorked, HaveForm, HaveRun, IsOurs, AreCalledIn, Memory, ReplyForm, ReplyLine, ScriptLine, Session, StartsWith, Worker, World, entries_of, eqb_tells, get_or_append_left, get_or_default, get_or_push, numbers_of, take_more}
+use Rattle.session_host.proofs.Common.{AreApart, AreCalledIn, AreKept, ChangesAt, count_by-le-length, entries_of, eqb_tells, get_or_append_left, get_or_default, get_or_push, GoesFurther, HasAnswered, HasLearned, HasMade, HasSeen, HasWorked, HaveForm, HaveRun, IsOurs, length-filter, lines_of, Memory, numbers_of, ReplyForm, ReplyLine, ScriptLine, Session, StartsWith, take_more, Worker, World}
 use Rattle.std.proofs.lemmas.Bool.{both_ways}
-use Rattle.std.proofs.lemmas.List.Sums.{count_by-le-length, length-filter}
 use Rattle.session_host.proofs.Order.{within_more, within_whole}
 use Rattle.session_host.proofs.Told.{answered_other}
+use Rattle.session_host.proofs.History.{calls_length, numbered_length}
 use Rattle.session_host.proofs.Meeting.{item_of, learned}
 
 map_same : {X : Type 0} (f : X → ℕ) (xs ys : List X) → length ys ≡ length xs → ((k : ℕ) (d : X) → k < length xs → f (get_or ys k d) ≡ f (get_or xs k d)) → map f ys ≡ map f xs
@@ -18,7 +18,9 @@ module _ {D A C : Type 0} (w : World D A C) (lines : List ScriptLine) where
   few_replies s h few = (
     h.replies.told,
     h.replies.kept,
-    let a = h.replies.replies.count in let own = λ (l : ScriptLine). l.session == s.caller.number in omega (arith, length-filter own lines, count_by-le-length own lines),
+    let own = λ (l : ScriptLine). l.session == s.caller.number in let made = h.replies.replies.made in
+        let a = ap length h.replies.replies.printed ∙ (numbered_length 1 made.turns ∙ sym (calls_length [] (lines_of s.caller.number lines) made.turns made.made.calls)) in
+        omega (arith, a, length-filter own lines, count_by-le-length own lines),
   )
 
   -- A LINE OF NO SESSION HERE
@@ -114,7 +116,7 @@ module _ {D A C : Type 0} (w : World D A C) (lines : List ScriptLine) where
         stopped_here : HasMade w lines after.caller ⊎ HasMade w (lines ++ line ∷ []) after.caller → All (λ s. HasMade w lines s.caller ⊎ HasMade w (lines ++ line ∷ []) s.caller) u.sessions.items
         stopped_here made =
             let P = λ (s : Session D A C). HasMade w lines s.caller ⊎ HasMade w (lines ++ line ∷ []) s.caller in
-            subst (All P) (sym items) (each P made (λ k d lt ne. inr (beside k d lt ne).made))
+            subst (All P) (sym items) (each P made (λ k d lt ne. inr (beside k d lt ne).replies.replies.made))
 
         pub ran_line : (r : Result (Unit {0}) Memory) → MatchResult r (λ done. HasAnswered w (lines ++ line ∷ []) after) (λ full. HasMade w lines after.caller ⊎ HasMade w (lines ++ line ∷ []) after.caller) →
             IfOk r (λ done. GoesFurther line.session before.caller after.caller) →

@@ -1,11 +1,11 @@
 -- How many calls of a history met the failure of a device, and how many reply lines say so.
-use Rattle.std.specs.Prelude.{◌≡◌, ◌≤◌, ◌<◌, ◌+◌, ◌-◌, ◌^◌, ℕ, Bool, true, false, cond, count_by, List, [], ◌∷◌, map}
+use Rattle.std.specs.Prelude.{◌≡◌, ◌≤◌, ◌<◌, ◌+◌, ◌-◌, ◌^◌, ℕ, Bool, true, false, cond, count_by, List, [], ◌∷◌, All, map}
 use Rattle.psa_status.specs.declared.Status.{Status}
 use Rattle.psa_status.specs.declared.Status.TheVariants.{StorageFailure, HardwareFailure, DataCorrupt}
-use Rattle.store_model.specs.Prelude.{FaultMark, Storage, Hardware, Corrupt, FaultCounts, IsCaused, last_counts, Entry}
+use Rattle.store_model.specs.Prelude.{FaultMark, Plain, Storage, Hardware, Corrupt, FaultCounts, IsCaused, last_counts, Entry}
 use Rattle.store_core.specs.Prelude.{Opening, AreRising}
 use Rattle.script_lang.specs.Prelude.{ReplyLine}
-use Rattle.session_host.specs.Heads.{failure_of, failures_to}
+use Rattle.session_host.specs.Places.{failure_of, failures_to}
 
 -- MARKS
 
@@ -20,6 +20,10 @@ is_hardware _ = false
 abbrev pub is_corrupt : FaultMark → Bool
 is_corrupt Corrupt = true
 is_corrupt _ = false
+
+-- no call of a history met a failure
+abbrev pub ArePlain : List Entry → Type 0
+ArePlain h = All (λ e. e.mark ≡ Plain) h
 
 -- how many entries have such a mark
 abbrev pub marked : (FaultMark → Bool) → List Entry → ℕ

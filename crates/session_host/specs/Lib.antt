@@ -1,9 +1,9 @@
 pub mod Running
 pub mod Runs
 pub mod Replying
-pub mod Printed
-pub mod Heads
+pub mod Places
 pub mod Sessions
 pub mod Bounds
+pub mod Replayed
 pub mod Workers
 pub mod Dealing

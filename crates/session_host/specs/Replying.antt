@@ -1,28 +1,29 @@
--- What is known of the answers to calls.
-use Rattle.std.specs.Prelude.{ℕ, ◌≡◌, Option, Result, List, [], ◌∷◌, ◌++◌}
+-- What is printed of the answers to calls.
+use Rattle.std.specs.Prelude.{ℕ, ◌≡◌, ◌∷◌, ◌++◌, List, [], take, Result, Ok, Err}
 use Rattle.psa_status.specs.declared.Status.{Status}
-use Rattle.store_model.specs.Prelude.{Reply, output_bytes, buffer_after}
-use Rattle.service_calls.specs.declared.output.Output.{Output}
-use Rattle.callers.specs.Failures.{failure_told}
+use Rattle.psa_status.specs.declared.Status.TheVariants.{Success}
 use Rattle.service_calls.specs.Answered.{AnswersReply}
-use Rattle.script_lang.specs.Prelude.{id_given, AreKept, ReplyLine, next_line}
+use Rattle.service_calls.specs.declared.output.Output.{Output}
+use Rattle.service_calls.specs.declared.output.Output.TheVariants as output
+use Rattle.store_model.specs.Call as model
+use Rattle.store_model.specs.Prelude.{Reply, buffer_after, done, given, output_bytes, refusal}
+use Rattle.script_lang.specs.Prelude.{AreKept, ReplyLine, id_given, next_line}
 use Rattle.script_lang.specs.declared.replies.Replies.{Replies}
 
--- what a call answered: its status, the bytes that it gave back, and the identifier that it gave, or 0
-pub record Answer : Type 0 where
-  pub status : Status
-  pub bytes : List ℕ
-  pub id : ℕ
+-- what is printed of an answer, as a reply; bytes are those with which the output buffer then begins
+abbrev pub reply_of : Result Output Status → (out : List ℕ) → Reply
+reply_of (Ok output.Done) out = done
+reply_of (Ok (output.Identifier id)) out = record { status = Success; output = model.Identifier id.0; needed = 0 }
+reply_of (Ok (output.Description attributes)) out = record { status = Success; output = model.Description attributes; needed = 0 }
+reply_of (Ok (output.Bytes count)) out = given (take count out)
+reply_of (Ok (output.Number number)) out = record { status = Success; output = model.Number number; needed = 0 }
+reply_of (Err status) out = refusal status
 
--- what is known of a call's answer
-pub record Answers (a : Answer) (reply : Reply) : Type 0 where
-  pub status : a.status ≡ reply.status
-  pub bytes : a.bytes ≡ output_bytes reply.output
-  pub id : a.id ≡ id_given reply.output
-
--- its status tells of this failure of a device
-abbrev pub Tells : Answer → Option Status → Type 0
-Tells a failure = failure_told a.status ≡ failure
+-- two replies are printed alike, and give the same identifier
+pub record ArePrintedAlike (one other : Reply) : Type 0 where
+  pub status : one.status ≡ other.status
+  pub bytes : output_bytes one.output ≡ output_bytes other.output
+  pub id : id_given one.output ≡ id_given other.output
 
 -- what is known of a call that was made with an output buffer: its answer, and the buffer after it
 pub record Fills (answer : Result Output Status) (out : List ℕ) (reply : Reply) : Type 0 where
@@ -30,6 +31,11 @@ pub record Fills (answer : Result Output Status) (out : List ℕ) (reply : Reply
   pub before : List ℕ
   pub after : out ≡ buffer_after before reply
 
--- a session's replies have one line more, of an answer at this rank
-abbrev pub Notes : (old new : Replies) (rank : ℕ) → Answer → Type 0
-Notes old new rank a = (lines : List ReplyLine) → AreKept old lines → AreKept new (lines ++ next_line old rank a.status a.bytes ∷ [])
+-- a session's replies have one line more, at this rank
+abbrev pub NotesLine : (old new : Replies) (rank : ℕ) → Status → (bytes : List ℕ) → Type 0
+NotesLine old new rank status bytes = (lines : List ReplyLine) → AreKept old lines → AreKept new (lines ++ next_line old rank status bytes ∷ [])
+
+-- it is that of a reply, which gave this identifier, or 0
+pub record IsNoted (old new : Replies) (rank : ℕ) (reply : Reply) (id : ℕ) : Type 0 where
+  pub line : NotesLine old new rank reply.status (output_bytes reply.output)
+  pub id_is : id ≡ id_given reply.output

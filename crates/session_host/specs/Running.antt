@@ -33,7 +33,6 @@ module _ {D A C : Type 0} where
     -- each has made those of all lines, and these are the replies by session
     pub record HaveAnswered (told : List (List ReplyLine)) : Type 0 where
       pub sixteen : length told ≡ 16
-      pub made : (k : ℕ) (d : Caller D A C) → k < 16 → HasMade w lines (get_or callers k d)
       pub replied : (k : ℕ) (d : Caller D A C) (r : List ReplyLine) → k < 16 → HasReplies w lines (get_or callers k d) (get_or told k r)
 
     -- and they are kept in this form

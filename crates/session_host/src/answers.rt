@@ -1,10 +1,9 @@
 // What calls answer, as the lines that are printed.
-ghost use Rattle.std.specs.Prelude.{◌≡◌, ◌≤◌, ◌<◌, ◌-◌, ◌^◌, ◌++◌, List, IfOk, None, Ok, length, take};
+ghost use Rattle.std.specs.Prelude.{◌≡◌, ◌<◌, ◌-◌, ◌^◌, List, IfOk, Ok, length};
 ghost use Rattle.psa_status.specs.declared.Status.TheVariants.{Success};
-ghost use Rattle.store_model.specs.Prelude.{Bytes, Reply, attribute_bytes, output_bytes, refusal};
-ghost use Rattle.callers.specs.Failures.{failure_in};
+ghost use Rattle.store_model.specs.Prelude.{attribute_bytes};
 ghost use Rattle.script_lang.specs.Prelude.{AreKept, ReplyLine};
-ghost use Rattle.session_host.specs.Replying.{Answer, Answers, Fills, Notes, Tells};
+ghost use Rattle.session_host.specs.Replying.{IsNoted, NotesLine, reply_of};
 
 use key_attributes::Attributes;
 use psa_status::{Memory, Status};
@@ -21,7 +20,7 @@ fn note_bytes(
     id: u32,
 ) -> Result<u32, Memory>
     requires kept { (lines : List ReplyLine) × AreKept replies.old lines × (length lines < 2 ^ 32 - 1) }
-    ensures noted { IfOk result (λ given. Notes replies.old replies.new rank (record { status = status; bytes = bytes.now; id = id })) }
+    ensures noted { IfOk result (λ given. NotesLine replies.old replies.new rank status bytes.now) }
     ensures id { IfOk result (λ given. given ≡ id) }
     ensures session { replies.new.session ≡ replies.old.session }
     ensures form { replies.new.form ≡ replies.old.form }
@@ -50,7 +49,7 @@ fn note_attributes(
     attributes: &Attributes,
 ) -> Result<u32, Memory>
     requires kept { (lines : List ReplyLine) × AreKept replies.old lines × (length lines < 2 ^ 32 - 1) }
-    ensures noted { IfOk result (λ given. Notes replies.old replies.new rank (record { status = Success; bytes = attribute_bytes attributes.now; id = 0 })) }
+    ensures noted { IfOk result (λ given. NotesLine replies.old replies.new rank Success (attribute_bytes attributes.now)) }
     ensures id { IfOk result (λ given. given ≡ 0) }
     ensures session { replies.new.session ≡ replies.old.session }
     ensures form { replies.new.form ≡ replies.old.form }
@@ -70,7 +69,7 @@ fn note_output(
     out: &[u8],
 ) -> Result<u32, Memory>
     requires kept { (lines : List ReplyLine) × AreKept replies.old lines × (length lines < 2 ^ 32 - 1) }
-    ensures noted { IfOk result (λ given. (a : Answer) × (a.id ≡ given) × Notes replies.old replies.new rank a × Tells a None × ((reply : Reply) → Fills (Ok output) out.now reply → Answers a reply)) }
+    ensures noted { IfOk result (IsNoted replies.old replies.new rank (reply_of (Ok output) out.now)) }
     ensures session { replies.new.session ≡ replies.old.session }
     ensures form { replies.new.form ≡ replies.old.form }
 {
@@ -97,7 +96,7 @@ pub fn note(
     out: &[u8],
 ) -> Result<u32, Memory>
     requires kept { (lines : List ReplyLine) × AreKept replies.old lines × (length lines < 2 ^ 32 - 1) }
-    ensures noted { IfOk result (λ given. (a : Answer) × (a.id ≡ given) × Notes replies.old replies.new rank a × Tells a (failure_in answer) × ((reply : Reply) → Fills answer out.now reply → Answers a reply)) }
+    ensures noted { IfOk result (IsNoted replies.old replies.new rank (reply_of answer out.now)) }
     ensures session { replies.new.session ≡ replies.old.session }
     ensures form { replies.new.form ≡ replies.old.form }
 {

@@ -10,6 +10,6 @@ mod running;
 mod session;
 mod worker;
 
-pub use laws::{lines_are_bounded, marks_are_bounded};
+pub use laws::{lines_are_bounded, marks_are_bounded, sessions_are_replayed};
 pub use lines::{Run, Unanswered, answer_lines};
 pub use running::run_sessions;

@@ -2,9 +2,10 @@
 ghost use Rattle.std.specs.Prelude.{◌≡◌, ◌≤◌, ◌<◌, ◌+◌, ◌-◌, ◌^◌, ◌++◌, ◌∷◌, [], ℕ, List, IfOk, MatchResult, length, ◌⊎◌};
 ghost use Rattle.callers.specs.Ready.{IsReady};
 ghost use Rattle.locked_store.specs.Prelude.{world};
+ghost use Rattle.store_model.specs.Prelude.{Reply};
 ghost use Rattle.script_lang.specs.Prelude.{request_of, AreKept, ReplyLine};
 ghost use Rattle.script_lang.specs.declared.script.ScriptLine as script_line;
-ghost use Rattle.session_host.specs.Replying.{Answer, Answers, Notes, Tells};
+ghost use Rattle.session_host.specs.Replying.{IsNoted};
 ghost use Rattle.session_host.specs.Sessions.{HasAnswered, HasMade, IsMade, GoesFurther};
 
 use crate::answers::note;
@@ -59,9 +60,8 @@ impl<D: Disk, A: Devices, C: Admission> Session<D, A, C> {
         ensures ready { IsReady (world service.now.shared) 0 self.new.caller }
         ensures spent { self.new.caller.spent ≤ self.old.caller.spent + 2 }
         ensures number { self.new.caller.number ≡ self.old.caller.number }
-        ensures made { (rank : ℕ) × MatchResult result
-            (λ given. (a : Answer) × (a.id ≡ given) × Notes self.old.replies self.new.replies rank a × IsMade (world service.now.shared) self.old.caller.pass.me.0 self.new.caller.pass.me.0 (request_of self.old.given.items line.now.call) rank (Answers a) (Tells a))
-            (λ full. IsMade (world service.now.shared) self.old.caller.pass.me.0 self.new.caller.pass.me.0 (request_of self.old.given.items line.now.call) rank (λ reply. Unit {0}) (λ failure. Unit {0})) }
+        ensures made { (rank : ℕ) × (reply : Reply) × IsMade (world service.now.shared) self.old.caller.pass.me.0 self.new.caller.pass.me.0 (request_of self.old.given.items line.now.call) rank reply
+            × IfOk result (IsNoted self.old.replies self.new.replies rank reply) }
         ensures session { self.new.replies.session ≡ self.old.replies.session }
         ensures form { self.new.replies.form ≡ self.old.replies.form }
         ensures given { self.new.given ≡ self.old.given }

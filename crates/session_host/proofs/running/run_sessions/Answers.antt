@@ -1,6 +1,5 @@
 use Rattle.std.proofs.Common.{All, List, [], ap, arith, length, subst, sym, take, ℕ, ◌++◌, ◌∙◌, ◌≡◌}
-use Rattle.std.proofs.Math.Seq.{take-append_seam}
-use Rattle.session_host.proofs.Common.{world}
+use Rattle.session_host.proofs.Common.{take-append_seam, world}
 use Rattle.session_host.proofs.Gathered.{have_made_none}
 use Rattle.session_host.proofs.running.run_sessions.Goals as goal
 

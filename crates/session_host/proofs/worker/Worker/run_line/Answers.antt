@@ -10,13 +10,13 @@ returns-in_default-clause-ran g c = λ lines h.
     ran_none w lines c.args.line.now c.args.self.now h (subst (All (λ (s : Session _ _ _). s.caller.number ≢ c.args.line.now.session)) c.deref.ensures.value c.in_default.ensures.none)
 
 pub meet-requires-clause-ready : goal.meet-requires-clause-ready
-meet-requires-clause-ready g c κs within = λ k d lt. (c.requires.1.answered k d lt).made.ready
+meet-requires-clause-ready g c κs within = λ k d lt. (c.requires.1.answered k d lt).replies.replies.made.ready
 
 pub run_line-ran-requires-clause-ready : goal.run_line-ran-requires-clause-ready
 run_line-ran-requires-clause-ready g c κs within =
     let w = world c.args.service.now.shared in
     let found = subst (λ xs. (c.in-Some.place < length xs) × ((d : Session _ _ _) → (get_or xs c.in-Some.place d).caller.number ≡ c.args.line.now.session)) c.deref.ensures.value c.in-Some.ensures.found in
-    (answered_here w c.requires.0 c.args.line.now c.args.self.now c.meet.new.self.sessions.items c.in-Some.place c.index_mut.result.now c.index_mut.result.now c.requires.1 found.0 found.1 c.meet.ensures.learned c.index_mut.ensures.value).made.ready
+    (answered_here w c.requires.0 c.args.line.now c.args.self.now c.meet.new.self.sessions.items c.in-Some.place c.index_mut.result.now c.index_mut.result.now c.requires.1 found.0 found.1 c.meet.ensures.learned c.index_mut.ensures.value).replies.replies.made.ready
 
 pub run_line-ran-requires-clause-kept : goal.run_line-ran-requires-clause-kept
 run_line-ran-requires-clause-kept g c κs within =

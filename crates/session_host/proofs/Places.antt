@@ -1,9 +1,7 @@
--- What stands for a session's calls in a history that goes on, and the heads of its replies.
-use Rattle.std.proofs.Common.{Bool, List, [], ap, ap₂, arith, cond, eq-eqb, eqb, false, length, map, refl, sym, true, ℕ, ◌++◌, ◌+◌, ◌∙◌, ◌∷◌, ◌≡◌}
-use Rattle.session_host.proofs.Common.{Entry, ReplyLine, StartsWith, caller_of, calls_by, head_of, heads, length-map, map-append}
-use Rattle.std.proofs.lemmas.List.{append-nil}
-use Rattle.session_host.specs.Heads.{of_calls}
-use Rattle.session_host.proofs.History.{last_call, none_after, none_chosen}
+-- What stands for a session's calls in a history that goes on.
+use Rattle.std.proofs.Common.{Bool, List, [], ap, arith, cond, eq-eqb, eqb, false, length, map, refl, sym, true, ℕ, ◌++◌, ◌+◌, ◌∙◌, ◌∷◌, ◌≡◌}
+use Rattle.session_host.proofs.Common.{append-nil, caller_of, calls_by, Entry, of_calls, StartsWith}
+use Rattle.session_host.proofs.History.{chosen_length, last_call, none_after, none_chosen}
 
 module _ {X : Type 0} (at : ℕ → Entry → X) where
   cond_append : (b : Bool) (x : X) (xs ys : List X) → cond b (x ∷ (xs ++ ys)) (xs ++ ys) ≡ cond b (x ∷ xs) xs ++ ys
@@ -48,23 +46,17 @@ module _ {X : Type 0} (at : ℕ → Entry → X) where
       ∙ (last_of session before e by
       ∙ ap (λ ps. ps ++ at (length before) e ∷ []) (same_later session old before since same))
 
--- one more reply
+  -- as much stands for them as there are
+  pub as_many : (session rank : ℕ) (h : List Entry) → length (of_calls at session rank h) ≡ length (calls_by caller_of session h)
+  as_many session rank [] = refl
+  as_many session rank (e ∷ h) = chosen_length (eqb e.caller session) e (calls_by caller_of session h) (at rank e) (of_calls at session (rank + 1) h) (as_many session (rank + 1) h)
 
-heads_length : (session number : ℕ) (ranks : List ℕ) → length (heads session number ranks) ≡ length ranks
-heads_length session number [] = refl
-heads_length session number (rank ∷ ranks) = omega (arith, heads_length session (number + 1) ranks)
+map_chosen : {X Y : Type 0} (f : X → Y) (b : Bool) (x : X) (xs : List X) (ys : List Y) → map f xs ≡ ys → map f (cond b (x ∷ xs) xs) ≡ cond b (f x ∷ ys) ys
+map_chosen f true x xs ys is = ap (λ l. f x ∷ l) is
+map_chosen f false x xs ys is = is
 
-heads_more : (session number : ℕ) (ranks : List ℕ) (rank : ℕ) → heads session number (ranks ++ rank ∷ []) ≡ heads session number ranks ++ (session, number + length ranks, rank) ∷ []
-heads_more session number [] rank = let m : number ≡ number + 0 = omega arith in ap (λ k. (session, k, rank) ∷ []) m
-heads_more session number (first ∷ ranks) rank =
-    let m : number + 1 + length ranks ≡ number + length (first ∷ ranks) = omega arith in
-    ap (λ hs. (session, number, first) ∷ hs) (heads_more session (number + 1) ranks rank ∙ ap (λ k. heads session (number + 1) ranks ++ (session, k, rank) ∷ []) m)
-
-pub one_more_head : (session : ℕ) (replies : List ReplyLine) (ranks : List ℕ) (r : ReplyLine) → map head_of replies ≡ heads session 1 ranks → r.session ≡ session → r.number ≡ length replies + 1 →
-    map head_of (replies ++ r ∷ []) ≡ heads session 1 (ranks ++ r.rank ∷ [])
-one_more_head session replies ranks r known own number =
-    let place : r.number ≡ 1 + length ranks = (let a = sym (length-map replies head_of) ∙ (ap length known ∙ heads_length session 1 ranks) in omega (arith, a, number)) in
-    map-append head_of replies (r ∷ [])
-    ∙ (ap₂ (λ s n. map head_of replies ++ (s, n, r.rank) ∷ []) own place
-    ∙ (ap (λ hs. hs ++ (session, 1 + length ranks, r.rank) ∷ []) known
-    ∙ sym (heads_more session 1 ranks r.rank)))
+-- what is made of what stands for them
+pub map_of_calls : {X Y : Type 0} (f : X → Y) (at : ℕ → Entry → X) (session rank : ℕ) (h : List Entry) → map f (of_calls at session rank h) ≡ of_calls (λ r e. f (at r e)) session rank h
+map_of_calls f at session rank [] = refl
+map_of_calls f at session rank (e ∷ h) =
+    map_chosen f (eqb e.caller session) (at rank e) (of_calls at session (rank + 1) h) (of_calls (λ r e. f (at r e)) session (rank + 1) h) (map_of_calls f at session (rank + 1) h)

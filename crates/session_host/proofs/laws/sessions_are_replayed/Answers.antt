@@ -1,0 +1,6 @@
+use Rattle.session_host.proofs.Common.{world_of}
+use Rattle.session_host.proofs.Replayed.{replayed}
+use Rattle.session_host.proofs.laws.sessions_are_replayed.Goals as goal
+
+pub returns : goal.returns
+returns g c lock opened start history session lines turns is told tells are = replayed (world_of g.D.Disk g.A.Devices g.C.Admission lock opened) start is history told tells session lines turns are

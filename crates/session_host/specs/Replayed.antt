@@ -1,0 +1,21 @@
+-- What a session's turns are where its calls and replies are told.
+use Rattle.std.specs.Prelude.{ℕ, ◌≡◌, true, List, [], is_some}
+use Rattle.atomic_table.specs.Seated.{TableId}
+use Rattle.store_model.specs.Prelude.{Service, Entry}
+use Rattle.store_core.specs.declared.store.Opened.{Opened}
+use Rattle.locked_store.specs.Prelude.{IsStartOf, ToldBy, world_of}
+use Rattle.script_lang.specs.declared.script.ScriptLine.{ScriptLine}
+use Rattle.script_lang.specs.Prelude.{AreCalls, Turn, numbered, turns_from, turns_of}
+use Rattle.session_host.specs.Sessions.{AreTurnsIn}
+use Rattle.disk_face.specs.declared.Disk as Disk
+use Rattle.driver_dispatch.specs.declared.devices.Devices as Devices
+use Rattle.admission.specs.declared.rules.Admission as Admission
+
+-- From a start from which the history is told, where the devices tell their keys, a session's turns are printed as those of the
+-- replay, of which the calls are those of the session's lines too.
+abbrev pub SessionsAreReplayed : {D A C : Type 0} → Disk.Ghosts D → Devices.Ghosts A → Admission.Ghosts C → Type 0
+SessionsAreReplayed {D} {A} {C} disks elements admits =
+    (lock : TableId) (opened : Opened D A C) (start : Service) (history : List Entry) (session : ℕ) (lines : List ScriptLine) (turns : List Turn) →
+    IsStartOf (world_of disks elements admits lock opened) start → ToldBy (world_of disks elements admits lock opened) start history → is_some (elements.keys opened.devices.value) ≡ true →
+    AreTurnsIn (world_of disks elements admits lock opened) history session lines turns →
+    AreCalls [] lines (turns_of session (turns_from 0 start history)) × (numbered 1 turns ≡ numbered 1 (turns_of session (turns_from 0 start history)))
