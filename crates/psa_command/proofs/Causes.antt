@@ -1,6 +1,6 @@
 -- Why a command ends as it does.
-use Rattle.std.proofs.Common.{Err, IfSome, IsOk, List, None, Ok, Option, Some, [], ap, arith, inl, inr, refl, subst, sym, ℕ, ◌∷◌, ◌≡◌, ◌⊎◌}
-use Rattle.psa_command.proofs.Common.{AreLinesOf, Command, DamagedCell, DiskFault, Done, EndsBy, Exit, HasStore, IsOfImage, IsOfReading, IsReadable, IsRun, IsUnrun, IsWritten, Memory, NotAStore, ReadFault, ReplyLine, Script, ScriptFault, ScriptLine, TellsThat, Usage, WriteFault, exit_of, exit_unanswered, labels_by, leb_tells, script_of, seed_by, text_by, workers_by}
+use Rattle.std.proofs.Common.{Err, IfSome, IsOk, List, None, Ok, Option, Some, [], ap, arith, inl, inr, is_some, refl, subst, sym, true, ℕ, ◌∷◌, ◌≡◌, ◌⊎◌}
+use Rattle.psa_command.proofs.Common.{AreLinesOf, Command, DamagedCell, DiskFault, Done, EndsBy, Exit, HasStore, IsDonePlainly, IsOfImage, IsReadable, IsRun, IsUnrun, IsWritten, Memory, NotAStore, ReadFault, ReplyLine, Script, ScriptFault, ScriptLine, TellsThat, Usage, WriteFault, exit_of, exit_unanswered, labels_by, leb_tells, script_of, seed_by, text_by, workers_by}
 use Rattle.psa_status.specs.Causes.{Rose}
 use Rattle.policy_rules.specs.declared.narrowing.Label.{Label}
 use Rattle.disk_face.specs.Disk.{NoNewImage}
@@ -98,6 +98,10 @@ module _ {D A C : Type 0} (disks : Disk.Ghosts D) (elements : Devices.Ghosts A) 
       found None h = tt
       found (Some image) h = opens image h
 
+  tells_store : (t : Option (List ℕ)) → HasStore t → is_some t ≡ true
+  tells_store None has = absurd has
+  tells_store (Some image) has = refl
+
   -- WHAT ELSE FOLLOWS FROM HOW A COMMAND ENDED
 
   -- how a command ended, where the two types say that the source's and the sink's faults rose
@@ -120,8 +124,9 @@ module _ {D A C : Type 0} (disks : Disk.Ghosts D) (elements : Devices.Ghosts A) 
 
   -- lines that can be read are answered, but for a fault of source, sink or disk, and want of memory
   pub complete : (exit : Exit) (old new : Option (List ℕ)) (read write : Type 0) → IsKnown exit old new read write → IsReadable command left → (read → ⊥) → (write → ⊥) →
-      (Rose (disks.faults disk) (disks.faults disk_after) → ⊥) → HasStore (disks.contents disk) → (exit ≡ Done) ⊎ (exit ≡ Memory)
-  complete Done old new read write known reads r w d has = inl refl
+      (Rose (disks.faults disk) (disks.faults disk_after) → ⊥) → HasStore (disks.contents disk) →
+      IsDonePlainly disks elements admits given left disk devices command disk_after devices_after exit old new ⊎ (exit ≡ Memory)
+  complete Done old new read write known reads r w d has = inl (refl, λ still. let k = known.ends in (k.0, k.1, k.1.answered.run.plain (tells_store (disks.contents disk) has) d still, k.2))
   complete Usage old new read write known reads r w d has = absurd known.ends
   complete (Script f) old new read write known reads r w d has = absurd (no_fault command left f (known.script f refl) reads)
   complete ReadFault old new read write known reads r w d has = absurd (r (known.read refl))
@@ -180,13 +185,6 @@ module _ {D A C : Type 0} (disks : Disk.Ghosts D) (elements : Devices.Ghosts A) 
       first (Some image) other damaged more = lowest image other cell more damaged
 
   -- HOW A COMMAND ENDS
-
-  -- before its store is opened
-  pub given_back : (exit : Exit) (old new : Option (List ℕ)) → IsOfReading exit → (disk_after ≡ disk) × (devices_after ≡ devices) → EndsSo exit old new
-  given_back (Script fault) old new reading same = same
-  given_back ReadFault old new reading same = same
-  given_back Memory old new reading same = inl same
-  given_back exit old new reading same = absurd reading
 
   -- with replies
   pub answered_ends : (exit : Exit) (old new : Option (List ℕ)) (replies : List ReplyLine) → Answers replies → IsWritten (text_by command replies) old new exit → EndsSo exit old new

@@ -1,6 +1,7 @@
 -- What a command runs, and what is known of its end.
 use Rattle.std.specs.Prelude.{ℕ, ◌≡◌, ◌⊎◌, List, [], replicate, length, IfSome, IsOk, Ok, Option, Some, None}
 use Rattle.std.specs.Io.KnownBytes.{Appends}
+use Rattle.psa_status.specs.Causes.{Rose}
 use Rattle.policy_rules.specs.declared.narrowing.Label.{Label}
 use Rattle.admission.specs.Apply.{picked}
 use Rattle.key_cells.specs.Prelude.{Opens}
@@ -11,6 +12,7 @@ use Rattle.line_generator.specs.Summary.{summary_of}
 use Rattle.command_words.specs.declared.command.Command.{Command}
 use Rattle.command_words.specs.declared.command.Command.TheVariants.{Run, Generate}
 use Rattle.session_host.specs.declared.lines.Unanswered.{Unanswered}
+use Rattle.session_host.specs.Bounds.{ArePlain}
 use Rattle.session_host.specs.Runs.{AreAnswered, IsUnanswered}
 use Rattle.psa_command.specs.declared.exit.Exit.{Exit}
 use Rattle.psa_command.specs.declared.exit.Exit.TheVariants.{Done, Usage, Script, ReadFault, WriteFault, NotAStore, DamagedCell, DiskFault, Memory}
@@ -75,6 +77,11 @@ module _ {D A C : Type 0} (disks : Disk.Ghosts D) (elements : Devices.Ghosts A) 
   EndsBy (Script fault) old new = IsGivenBack
   EndsBy ReadFault old new = IsGivenBack
   EndsBy Usage old new = ⊥
+
+  -- It was done. Where the devices' count of faults didn't rise, no call met a failure.
+  abbrev pub IsDonePlainly : Exit → (old new : Option (List ℕ)) → Type 0
+  IsDonePlainly exit old new = (exit ≡ Done)
+      × ((Rose (elements.faults devices) (elements.faults devices_after) → ⊥) → (replies : List ReplyLine) × (run : IsRun replies) × ArePlain run.answered.run.history × Appends old new (text_by command replies))
 
 -- a command's lines can be read: those of a script, where the source tells it
 abbrev pub IsReadable : Command → (left : Option (List ℕ)) → Type 0

@@ -15,7 +15,7 @@ ghost use Rattle.command_words.specs.Words.{command_of};
 ghost use Rattle.command_words.specs.declared.command.Command as command;
 ghost use Rattle.command_words.specs.declared.command.Command.TheVariants as commands;
 ghost use Rattle.command_words.specs.declared.command.RunOptions as options;
-ghost use Rattle.psa_command.specs.Commands.{EndsBy, HasStore, IsReadable, TellsThat};
+ghost use Rattle.psa_command.specs.Commands.{EndsBy, HasStore, IsDonePlainly, IsReadable, TellsThat};
 ghost use Rattle.psa_command.specs.Ends.{IsBeforeOpening, IsOfImage, IsQuiet, IsReadToEnd};
 
 use crate::exit::{Ended, Exit};
@@ -185,7 +185,7 @@ pub fn run_command<
     ensures unwritten { IsOfImage result.exit → (D.contents result.disk ≡ D.contents disk) × NoNewImage (D.may_leave disk) (D.may_leave result.disk) }
     ensures disk_fault { result.exit ≡ Exit.DiskFault → Rose (D.faults disk) (D.faults result.disk) }
     ensures complete { (c : command.Command) → command_of (L.labels rules) (map (λ w. w.now) words.now) ≡ Some c → IsReadable c (S.left source.old) → (Rose (S.faults source.old) (S.faults source.new) → ⊥) → (Rose (K.faults sink.old) (K.faults sink.new) → ⊥) → (Rose (D.faults disk) (D.faults result.disk) → ⊥) →
-        HasStore (D.contents disk) → (result.exit ≡ Exit.Done) ⊎ (result.exit ≡ Exit.Memory) }
+        HasStore (D.contents disk) → IsDonePlainly D.Disk A.Devices L.Picked.Admission (L.labels rules) (S.left source.old) disk devices c result.disk result.devices result.exit (K.taken sink.old) (K.taken sink.new) ⊎ (result.exit ≡ Exit.Memory) }
     ensures no_store { (c : command.Command) → command_of (L.labels rules) (map (λ w. w.now) words.now) ≡ Some c → IsReadable c (S.left source.old) → (Rose (S.faults source.old) (S.faults source.new) → ⊥) → (Rose (D.faults disk) (D.faults result.disk) → ⊥) →
         TellsThat IsNoStore (D.contents disk) → (result.exit ≡ Exit.NotAStore) ⊎ (result.exit ≡ Exit.Memory) }
     ensures bad_cell { (c : command.Command) → command_of (L.labels rules) (map (λ w. w.now) words.now) ≡ Some c → IsReadable c (S.left source.old) → (Rose (S.faults source.old) (S.faults source.new) → ⊥) → (Rose (D.faults disk) (D.faults result.disk) → ⊥) →

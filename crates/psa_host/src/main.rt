@@ -66,7 +66,7 @@ a second line then says, or can't be read, 7 without memory.";
 
 const VERSION: &str = "\
 psa_host 0.1.0
-Proved with rattle-kit-13b logic dac8208d650f15bf";
+Proved with rattle-kit-13f logic dac8208d650f15bf";
 
 /// How the program ended: as a run did, or before it, since the store's file isn't opened.
 #[derive(Drop)]

@@ -1,5 +1,5 @@
-use Rattle.std.proofs.Common.{Option, Some, ap, subst, sym, ◌∙◌, ◌≡◌}
-use Rattle.psa_command.proofs.Common.{Command, EndsBy, Exit, IsBeforeOpening, IsReadable, ReadFault, Script}
+use Rattle.std.proofs.Common.{Option, Some, ap, subst, sym, ◌∙◌, ◌≡◌, ◌⊎◌}
+use Rattle.psa_command.proofs.Common.{Command, EndsBy, Exit, IsBeforeOpening, IsDonePlainly, IsReadable, Memory, ReadFault, Script}
 use Rattle.admission.specs.Apply.{picked}
 use Rattle.command_words.specs.declared.command.Command.TheVariants as commands
 use Rattle.psa_command.proofs.Causes.{HasCause, bad_cell, cause, complete, no_store, refused, unwritten}
@@ -23,9 +23,10 @@ pub returns-in-Ok-Some-Run-clause-complete : goal.returns-in-Ok-Some-Run-clause-
 returns-in-Ok-Some-Run-clause-complete g c = λ asked h reads r w d has.
     let e = c.run_script.ensures in let named = c.pick-rules.ensures ∙ ap (λ l. picked l (g.L.RuleList.labels c.args.rules)) c.as_slice.ensures in
     let same = same_command {a = commands.Run c.in-Ok-Some-Run.options} {b = asked} c.in-Ok-Some-Run.field-0-0 c.in-Ok-Some-Run.ensures.value c.in-Ok-Some-Run.field-0-is c.in-Ok-Some-Run.field-0-0-is h in
-    complete g.D.Disk g.A.Devices g.L.Picked.Admission (g.L.RuleList.labels c.args.rules) (g.S.Source.left c.args.source.now) c.args.disk c.args.devices (commands.Run c.in-Ok-Some-Run.options) c.run_script.result.disk c.run_script.result.devices c.run_script.result.exit _ _ _ _
+    subst (λ x. IsDonePlainly g.D.Disk g.A.Devices g.L.Picked.Admission (g.L.RuleList.labels c.args.rules) (g.S.Source.left c.args.source.now) c.args.disk c.args.devices x c.run_script.result.disk c.run_script.result.devices c.run_script.result.exit (g.K.Sink.taken c.args.sink.now) (g.K.Sink.taken c.run_script.new.sink) ⊎ (c.run_script.result.exit ≡ Memory)) same
+    (complete g.D.Disk g.A.Devices g.L.Picked.Admission (g.L.RuleList.labels c.args.rules) (g.S.Source.left c.args.source.now) c.args.disk c.args.devices (commands.Run c.in-Ok-Some-Run.options) c.run_script.result.disk c.run_script.result.devices c.run_script.result.exit _ _ _ _
     (record { ends = e.ends (g.L.RuleList.labels c.args.rules) named; script = e.script; read = e.read; write = e.write })
-    (subst (λ x. IsReadable x (g.S.Source.left c.args.source.now)) (sym same) reads) r w d has
+    (subst (λ x. IsReadable x (g.S.Source.left c.args.source.now)) (sym same) reads) r w d has)
 
 pub returns-in-Ok-Some-Run-clause-no_store : goal.returns-in-Ok-Some-Run-clause-no_store
 returns-in-Ok-Some-Run-clause-no_store g c = λ asked h reads r d tells.
@@ -69,7 +70,9 @@ returns-in-Ok-Some-Generate-clause-disk_fault g c = λ e. subst (HasCause g.D.Di
 
 pub returns-in-Ok-Some-Generate-clause-complete : goal.returns-in-Ok-Some-Generate-clause-complete
 returns-in-Ok-Some-Generate-clause-complete g c = λ asked h reads r w d has.
-    complete g.D.Disk g.A.Devices g.L.Picked.Admission (g.L.RuleList.labels c.args.rules) (g.S.Source.left c.args.source.now) c.args.disk c.args.devices (commands.Generate c.in-Ok-Some-Generate.count) c.run_generator.result.disk c.run_generator.result.devices c.run_generator.result.exit _ _ ⊥ _ (record { ends = c.run_generator.ensures.ends (g.L.RuleList.labels c.args.rules) (g.S.Source.left c.args.source.now) c.pick-rules-in-Ok-Some-Generate.ensures; script = λ f e. late (λ z. c.run_generator.ensures.late z) (Script f) tt e; read = λ e. late (λ z. c.run_generator.ensures.late z) ReadFault tt e; write = c.run_generator.ensures.write }) tt (λ z. z) w d has
+    let same = same_command {a = commands.Generate c.in-Ok-Some-Generate.count} {b = asked} c.in-Ok-Some-Generate.field-0-0 c.in-Ok-Some-Generate.ensures.value c.in-Ok-Some-Generate.field-0-is c.in-Ok-Some-Generate.field-0-0-is h in
+    subst (λ x. IsDonePlainly g.D.Disk g.A.Devices g.L.Picked.Admission (g.L.RuleList.labels c.args.rules) (g.S.Source.left c.args.source.now) c.args.disk c.args.devices x c.run_generator.result.disk c.run_generator.result.devices c.run_generator.result.exit (g.K.Sink.taken c.args.sink.now) (g.K.Sink.taken c.run_generator.new.sink) ⊎ (c.run_generator.result.exit ≡ Memory)) same
+    (complete g.D.Disk g.A.Devices g.L.Picked.Admission (g.L.RuleList.labels c.args.rules) (g.S.Source.left c.args.source.now) c.args.disk c.args.devices (commands.Generate c.in-Ok-Some-Generate.count) c.run_generator.result.disk c.run_generator.result.devices c.run_generator.result.exit _ _ ⊥ _ (record { ends = c.run_generator.ensures.ends (g.L.RuleList.labels c.args.rules) (g.S.Source.left c.args.source.now) c.pick-rules-in-Ok-Some-Generate.ensures; script = λ f e. late (λ z. c.run_generator.ensures.late z) (Script f) tt e; read = λ e. late (λ z. c.run_generator.ensures.late z) ReadFault tt e; write = c.run_generator.ensures.write }) tt (λ z. z) w d has)
 
 pub returns-in-Ok-Some-Generate-clause-no_store : goal.returns-in-Ok-Some-Generate-clause-no_store
 returns-in-Ok-Some-Generate-clause-no_store g c = λ asked h reads r d tells.

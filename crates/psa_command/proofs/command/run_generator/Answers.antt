@@ -1,6 +1,5 @@
 use Rattle.std.proofs.Common.{refl, subst, sym, ◌∙◌}
-use Rattle.std.proofs.lemmas.Result.{MatchResult-at_err, MatchResult-at_ok}
-use Rattle.psa_command.proofs.Common.{AreAllKept}
+use Rattle.psa_command.proofs.Common.{AreAllKept, MatchResult-at_err, MatchResult-at_ok}
 use Rattle.command_words.specs.declared.command.Command.TheVariants as commands
 use Rattle.script_lang.specs.declared.replies.ReplyForm.TheVariants.{Unranked}
 use Rattle.psa_command.proofs.Causes.{answered_ends, of_answered, of_unanswered}

@@ -1,6 +1,5 @@
 use Rattle.std.proofs.Common.{IfSome, Ok, ap, flat_map, refl, subst, sym, ◌∙◌, ◌≡◌}
-use Rattle.std.proofs.lemmas.Result.{MatchResult-at_ok}
-use Rattle.psa_command.proofs.Common.{IsWritten, Replies, script_of}
+use Rattle.psa_command.proofs.Common.{IsWritten, MatchResult-at_ok, Replies, script_of}
 use Rattle.command_words.specs.declared.command.Command.TheVariants as commands
 use Rattle.psa_command.proofs.Causes.{answered_ends, of_answered}
 use Rattle.psa_command.proofs.command.run_script.Goals as goal
