@@ -7,9 +7,9 @@ use Rattle.persistent_keys.specs.declared.file.KeyFile.{KeyFile}
 use Rattle.slot_table.specs.Lent.{Reading}
 use Rattle.key_slots.specs.Holdings.{Pairs, Gains, AreHoldings}
 use Rattle.store_model.specs.Store as model
-use Rattle.store_model.specs.Prelude.{Import, GetAttributes, Export, created_unless, FaultMark, Plain, Service, Request, OnStore, Entry, replay, Key}
+use Rattle.store_model.specs.Prelude.{Import, GetAttributes, Export, created_unless, FaultMark, Plain, Service, Request, OnStore, Entry, replay}
 use Rattle.store_core.specs.declared.store.Store.{Store}
-use Rattle.store_core.specs.Prelude.{AddsAs, Gives, HasOut, IsEntry, Reads, ReadsAndGives, Stands, Takes, Creates, HasOutBeside, IsCreating, RecordsStated, IsRefused, mark_of}
+use Rattle.store_core.specs.Prelude.{AddsAs, Gives, HasOut, IsEntry, Reads, ReadsAndGives, Stands, Takes, Creates, HasOutBeside, IsCreating, RecordsStated, mark_of}
 use Rattle.store_core.proofs.Histories.{quiet_leaves}
 use Rattle.store_bench.specs.Keeping.{GivesLease, StandsForSomeHistory, StaysOut, first_has}
 use Rattle.store_bench.proofs.Outs.{are_one, hold, lease_beside, filling_alone, first_gains, is_out}
@@ -167,7 +167,7 @@ module _ {D A C : Type 0} (disks : Disk.Ghosts D) (elements : Devices.Ghosts A) 
         read_and_lent old new (first_has own) sized clear (first_has (p ∷ own)) id p (P l) reads (first_gains own p) (hold (p ∷ own) 5 (omega arith) (lease_beside own 4 l.slot l.creation leases)) k
     lends (Err why) id P reads = tt
 
-    pub lends_not : {R X : Type 0} (result : Result R (Status × X)) (id : ℕ) (rows : Option Key → Option Status) →
-        IfErr result (λ r. Reads disks elements admits old new id (mark_of r.0) (IsRefused rows id r.0)) → IfErr result (λ r. StaysOut disks elements admits old new 4)
-    lends_not (Ok l) id rows reads = tt
-    lends_not (Err r) id rows reads = λ own leases k. read old new (first_has own) sized clear id (mark_of r.0) (IsRefused rows id r.0) reads k
+    pub lends_not : {R X : Type 0} (result : Result R (Status × X)) (id : ℕ) (P : Status → model.Store → Type 0) →
+        IfErr result (λ r. Reads disks elements admits old new id (mark_of r.0) (P r.0)) → IfErr result (λ r. StaysOut disks elements admits old new 4)
+    lends_not (Ok l) id P reads = tt
+    lends_not (Err r) id P reads = λ own leases k. read old new (first_has own) sized clear id (mark_of r.0) (P r.0) reads k

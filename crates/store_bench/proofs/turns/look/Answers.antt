@@ -16,4 +16,4 @@ returns-clause-refused g c =
     let d = g.D.Disk in
     let v = g.A.Devices in
     let e = c.look.ensures in
-    lends_not d v g.C.Admission c.args.store.now c.look.new.self e.size e.clear c.look.result c.args.id.0 (use_refusal wanted.Export) e.refused
+    lends_not d v g.C.Admission c.args.store.now c.look.new.self e.size e.clear c.look.result c.args.id.0 _ e.refused
