@@ -1,22 +1,15 @@
 -- What rules make of the attributes of a new key.
-use Rattle.std.specs.Prelude.{◌≡◌, ℕ, Bool, List, ◌==◌, filter}
+use Rattle.std.specs.Prelude.{◌≡◌, Bool, List, bytes_eq, filter}
 use Rattle.std.specs.List.{list_any}
 use Rattle.key_attributes.specs.declared.Attributes.{Attributes}
 pub use Rattle.policy_rules.specs.Narrow.{after_rules}
 use Rattle.policy_rules.specs.Policy.{IsWithin}
 use Rattle.policy_rules.specs.declared.narrowing.Label.{Label}
-use Rattle.policy_rules.specs.declared.narrowing.Label.TheVariants.{NoExport, NoCopy, NoEcb, Aes256}
+use Rattle.admission.specs.Words.{label_word}
 
--- the labels are told apart by a number each
-abbrev pub label_number : Label → ℕ
-label_number NoExport = 0
-label_number NoCopy = 1
-label_number NoEcb = 2
-label_number Aes256 = 3
-
--- whether a label is one of these
+-- whether a label is one of these: they are told apart by their words
 abbrev pub is_one_of : List Label → Label → Bool
-is_one_of labels label = list_any (λ other. label_number other == label_number label) labels
+is_one_of labels label = list_any (λ other. bytes_eq (label_word other) (label_word label)) labels
 
 -- of the labels of a list those that are named, in the list's order
 abbrev pub picked : (named list : List Label) → List Label

@@ -40,14 +40,9 @@ options_in None (word ∷ words) = elim (option_in word) [
   | Some (option, Some value) ↦ option_map (λ settings. (option, value) ∷ settings) (options_in None words)
 ]
 
--- the options are told apart by a number each
-abbrev pub option_number : RunOption → ℕ
-option_number Workers = 0
-option_number Seed = 1
-option_number Rules = 2
-
+-- options are told apart by their names
 abbrev pub is_of : RunOption → Setting → Bool
-is_of option setting = option_number setting.0 == option_number option
+is_of option setting = bytes_eq (option_name setting.0) (option_name option)
 
 -- each option stands at most once
 abbrev pub are_single : List Setting → Bool

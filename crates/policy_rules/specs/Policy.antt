@@ -8,8 +8,7 @@ use Rattle.alg_encoding.specs.Encoding.{is_concrete, is_wildcard, base_of, tag_l
 -- a tag length that a minimum permits
 abbrev pub reaches : Option ℕ → Option ℕ → Bool
 reaches (Some minimum) (Some length) = nat_le minimum length
-reaches None length = false
-reaches (Some minimum) None = false
+reaches _ _ = false
 
 -- Whether a policy's algorithm permits a concrete algorithm. 0 permits nothing, another number the same algorithm, and "at
 -- least" a minimum also each algorithm of its base whose tag length reaches that.
@@ -35,8 +34,7 @@ MayUse policy flags alg = IsTrue (may_use policy flags alg)
 -- of two minima of one base the longer one's number
 abbrev pub longer_of : ℕ → Option ℕ → ℕ → Option ℕ → Option ℕ
 longer_of p (Some m) q (Some n) = Some (if nat_lt m n then q else p)
-longer_of p None q n = None
-longer_of p (Some m) q None = None
+longer_of p _ q _ = None
 
 -- The algorithm that permits what both permit, where there is one. 0 permits nothing, so that it is the meet with any number.
 -- The same algorithm in two spellings is the first one's.

@@ -1,6 +1,7 @@
 -- Why a command ends as it does.
 use Rattle.std.proofs.Common.{Err, IfSome, IsOk, List, None, Ok, Option, Some, [], ap, arith, inl, inr, is_some, refl, subst, sym, true, ℕ, ◌∷◌, ◌≡◌, ◌⊎◌}
-use Rattle.psa_command.proofs.Common.{AreLinesOf, Command, DamagedCell, DiskFault, Done, EndsBy, Exit, HasStore, IsDonePlainly, IsOfImage, IsReadable, IsRun, IsUnrun, IsWritten, Memory, NotAStore, ReadFault, ReplyLine, Script, ScriptFault, ScriptLine, TellsThat, Usage, WriteFault, exit_of, exit_unanswered, labels_by, leb_tells, script_of, seed_by, text_by, workers_by}
+use Rattle.psa_command.proofs.Common.{AreLinesOf, Command, DamagedCell, DiskFault, Done, EndsBy, Exit, HasStore, IsDonePlainly, IsOfImage, IsReadable, IsRun, IsUnrun, IsWritten, Memory, NotAStore, ReadFault, ReplyLine, Script, ScriptFault, ScriptLine, TellsThat, Usage, WriteFault, exit_of, exit_unanswered, leb_tells, script_of, text_by, options_of}
+use Rattle.admission.specs.Apply.{picked}
 use Rattle.psa_status.specs.Causes.{Rose}
 use Rattle.policy_rules.specs.declared.narrowing.Label.{Label}
 use Rattle.disk_face.specs.Disk.{NoNewImage}
@@ -62,8 +63,8 @@ module _ {D A C : Type 0} (disks : Disk.Ghosts D) (elements : Devices.Ghosts A) 
   HasCause _ = Unit {0}
 
   of_opening : (fault : OpenFault) → IsUnopened disks elements admits disk devices fault disk_after devices_after → HasCause (exit_of fault)
-  of_opening opening.NotAStore u = elim u.refused [ inl r ↦ (r.caused, (r.same tt, r.unwritten tt)) | inr m ↦ absurd (let e = m.0 in cc) ]
-  of_opening (opening.DamagedCell cell) u = elim u.refused [ inl r ↦ (r.caused, (r.same tt, r.unwritten tt)) | inr m ↦ absurd (let e = m.0 in cc) ]
+  of_opening opening.NotAStore u = elim u.refused [ inl r ↦ (r.caused, ((r.calm tt).same, (r.calm tt).crash)) | inr m ↦ absurd (let e = m.0 in cc) ]
+  of_opening (opening.DamagedCell cell) u = elim u.refused [ inl r ↦ (r.caused, ((r.calm tt).same, (r.calm tt).crash)) | inr m ↦ absurd (let e = m.0 in cc) ]
   of_opening opening.Disk u = elim u.refused [ inl r ↦ r.rose tt | inr m ↦ absurd (let e = m.0 in cc) ]
   of_opening opening.Memory u = tt
 
@@ -195,7 +196,7 @@ module _ {D A C : Type 0} (disks : Disk.Ghosts D) (elements : Devices.Ghosts A) 
 
   -- without them
   pub unanswered_ends : (why : Unanswered) (old new : Option (List ℕ)) (lines : List ScriptLine) → AreLinesOf command left lines →
-      IsUnanswered disks elements admits disk devices (labels_by command given) (seed_by command) lines why disk_after devices_after → EndsSo (exit_unanswered why) old new
+      IsUnanswered disks elements admits disk devices (picked (options_of command).labels given) (options_of command).seed lines why disk_after devices_after → EndsSo (exit_unanswered why) old new
   unanswered_ends (NotOpened opening.NotAStore) old new lines are u = record { lines = lines; lines_are = are; why = NotOpened opening.NotAStore; exit_is = refl; unanswered = u }
   unanswered_ends (NotOpened (opening.DamagedCell cell)) old new lines are u = record { lines = lines; lines_are = are; why = NotOpened (opening.DamagedCell cell); exit_is = refl; unanswered = u }
   unanswered_ends (NotOpened opening.Disk) old new lines are u = record { lines = lines; lines_are = are; why = NotOpened opening.Disk; exit_is = refl; unanswered = u }
@@ -203,22 +204,22 @@ module _ {D A C : Type 0} (disks : Disk.Ghosts D) (elements : Devices.Ghosts A) 
   unanswered_ends unanswered.Memory old new lines are u = inr (inl (record { lines = lines; lines_are = are; why = unanswered.Memory; exit_is = refl; unanswered = u }))
 
   -- replies of these lines are a command's, where labels, seed and workers are the command's
-  pub of_answered : (named : List Label) (seed : List ℕ) (workers : ℕ) (lines : List ScriptLine) (replies : List ReplyLine) → named ≡ labels_by command given → seed ≡ seed_by command → workers ≡ workers_by command →
+  pub of_answered : (named : List Label) (seed : List ℕ) (workers : ℕ) (lines : List ScriptLine) (replies : List ReplyLine) → named ≡ picked (options_of command).labels given → seed ≡ (options_of command).seed → workers ≡ (options_of command).workers →
       AreLinesOf command left lines → AreAnswered disks elements admits disk devices named seed workers lines replies disk_after devices_after → Answers replies
   of_answered named seed workers lines replies same_labels same_seed same_workers are a = record {
     lines = lines;
     lines_are = are;
     answered =
-        subst (λ n. AreAnswered disks elements admits disk devices (labels_by command given) (seed_by command) n lines replies disk_after devices_after) same_workers
-        (subst (λ z. AreAnswered disks elements admits disk devices (labels_by command given) z workers lines replies disk_after devices_after) same_seed
+        subst (λ n. AreAnswered disks elements admits disk devices (picked (options_of command).labels given) (options_of command).seed n lines replies disk_after devices_after) same_workers
+        (subst (λ z. AreAnswered disks elements admits disk devices (picked (options_of command).labels given) z workers lines replies disk_after devices_after) same_seed
         (subst (λ n. AreAnswered disks elements admits disk devices n seed workers lines replies disk_after devices_after) same_labels a));
   }
 
-  pub of_unanswered : (named : List Label) (seed : List ℕ) (why : Unanswered) (old new : Option (List ℕ)) (lines : List ScriptLine) → named ≡ labels_by command given → seed ≡ seed_by command → AreLinesOf command left lines →
+  pub of_unanswered : (named : List Label) (seed : List ℕ) (why : Unanswered) (old new : Option (List ℕ)) (lines : List ScriptLine) → named ≡ picked (options_of command).labels given → seed ≡ (options_of command).seed → AreLinesOf command left lines →
       IsUnanswered disks elements admits disk devices named seed lines why disk_after devices_after → EndsSo (exit_unanswered why) old new
   of_unanswered named seed why old new lines same_labels same_seed are u =
       unanswered_ends why old new lines are
-      (subst (λ z. IsUnanswered disks elements admits disk devices (labels_by command given) z lines why disk_after devices_after) same_seed
+      (subst (λ z. IsUnanswered disks elements admits disk devices (picked (options_of command).labels given) z lines why disk_after devices_after) same_seed
       (subst (λ n. IsUnanswered disks elements admits disk devices n seed lines why disk_after devices_after) same_labels u))
 
 -- A TEXT THAT IS NO SCRIPT

@@ -10,6 +10,7 @@ use Rattle.script_lang.specs.Prelude.{ReplyLine, script_of, text_of}
 use Rattle.line_generator.specs.Generator.{generator_lines}
 use Rattle.line_generator.specs.Summary.{summary_of}
 use Rattle.command_words.specs.declared.command.Command.{Command}
+use Rattle.command_words.specs.declared.command.RunOptions.{RunOptions}
 use Rattle.command_words.specs.declared.command.Command.TheVariants.{Run, Generate}
 use Rattle.session_host.specs.declared.lines.Unanswered.{Unanswered}
 use Rattle.session_host.specs.Bounds.{ArePlain}
@@ -26,19 +27,10 @@ abbrev pub AreLinesOf : Command → (left : Option (List ℕ)) → List ScriptLi
 AreLinesOf (Run options) left lines = IfSome left (λ text. script_of text ≡ Ok lines)
 AreLinesOf (Generate count) left lines = lines ≡ generator_lines count
 
--- the rules that a command picks, in the order in which they are given
-abbrev pub labels_by : Command → List Label → List Label
-labels_by (Run options) given = picked options.labels given
-labels_by (Generate count) given = picked [] given
-
--- the generator has a seed of zeros, and one worker
-abbrev pub seed_by : Command → List ℕ
-seed_by (Run options) = options.seed
-seed_by (Generate count) = replicate 32 0
-
-abbrev pub workers_by : Command → ℕ
-workers_by (Run options) = options.workers
-workers_by (Generate count) = 1
+-- the options of a command: the generator has one worker, a seed of zeros, and no rule
+abbrev pub options_of : Command → RunOptions
+options_of (Run options) = options
+options_of (Generate count) = record { workers = 1; seed = replicate 32 0; labels = [] }
 
 -- what is written of the replies
 abbrev pub text_by : Command → List ReplyLine → List ℕ
@@ -51,7 +43,7 @@ module _ {D A C : Type 0} (disks : Disk.Ghosts D) (elements : Devices.Ghosts A) 
   pub record IsRun (replies : List ReplyLine) : Type 0 where
     pub lines : List ScriptLine
     pub lines_are : AreLinesOf command left lines
-    pub answered : AreAnswered disks elements admits disk devices (labels_by command given) (seed_by command) (workers_by command) lines replies disk_after devices_after
+    pub answered : AreAnswered disks elements admits disk devices (picked (options_of command).labels given) (options_of command).seed (options_of command).workers lines replies disk_after devices_after
 
   -- a command's lines had no replies, and it ended so
   pub record IsUnrun (exit : Exit) : Type 0 where
@@ -59,7 +51,7 @@ module _ {D A C : Type 0} (disks : Disk.Ghosts D) (elements : Devices.Ghosts A) 
     pub lines_are : AreLinesOf command left lines
     pub why : Unanswered
     pub exit_is : exit ≡ exit_unanswered why
-    pub unanswered : IsUnanswered disks elements admits disk devices (labels_by command given) (seed_by command) lines why disk_after devices_after
+    pub unanswered : IsUnanswered disks elements admits disk devices (picked (options_of command).labels given) (options_of command).seed lines why disk_after devices_after
 
   abbrev pub IsGivenBack : Type 0
   IsGivenBack = (disk_after ≡ disk) × (devices_after ≡ devices)
@@ -83,18 +75,16 @@ module _ {D A C : Type 0} (disks : Disk.Ghosts D) (elements : Devices.Ghosts A) 
   IsDonePlainly exit old new = (exit ≡ Done)
       × ((Rose (elements.faults devices) (elements.faults devices_after) → ⊥) → (replies : List ReplyLine) × (run : IsRun replies) × ArePlain run.answered.run.history × Appends old new (text_by command replies))
 
+-- bytes are told, and P holds of them
+abbrev pub TellsThat : (List ℕ → Type 0) → Option (List ℕ) → Type 0
+TellsThat P None = ⊥
+TellsThat P (Some image) = P image
+
 -- a command's lines can be read: those of a script, where the source tells it
 abbrev pub IsReadable : Command → (left : Option (List ℕ)) → Type 0
-IsReadable (Run options) None = ⊥
-IsReadable (Run options) (Some text) = IsOk (script_of text)
+IsReadable (Run options) left = TellsThat (λ text. IsOk (script_of text)) left
 IsReadable (Generate count) left = Unit {0}
 
 -- a disk that tells its bytes has a store, or is new
 abbrev pub HasStore : Option (List ℕ) → Type 0
-HasStore None = ⊥
-HasStore (Some image) = (length image ≡ 0) ⊎ Opens image
-
--- it tells them, and P holds of them
-abbrev pub TellsThat : (List ℕ → Type 0) → Option (List ℕ) → Type 0
-TellsThat P None = ⊥
-TellsThat P (Some image) = P image
+HasStore told = TellsThat (λ image. (length image ≡ 0) ⊎ Opens image) told

@@ -33,14 +33,12 @@ IsOfImage _ = ⊥
 
 -- ends before which the source was read to its end, where there is a script
 abbrev pub IsReadToEnd : Exit → Type 0
-IsReadToEnd Done = Unit {0}
-IsReadToEnd WriteFault = Unit {0}
-IsReadToEnd NotAStore = Unit {0}
-IsReadToEnd (DamagedCell cell) = Unit {0}
-IsReadToEnd DiskFault = Unit {0}
-IsReadToEnd (Script faults.TooManyLines) = Unit {0}
-IsReadToEnd (Script (faults.BadLine line reason)) = Unit {0}
-IsReadToEnd _ = ⊥
+IsReadToEnd Usage = ⊥
+IsReadToEnd ReadFault = ⊥
+IsReadToEnd Memory = ⊥
+IsReadToEnd (Script faults.TooLong) = ⊥
+IsReadToEnd (Script faults.Memory) = ⊥
+IsReadToEnd _ = Unit {0}
 
 -- ends before which nothing was written
 abbrev pub IsQuiet : Exit → Type 0

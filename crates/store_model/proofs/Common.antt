@@ -33,7 +33,7 @@ pub use Rattle.store_model.specs.Ciphers.{CbcNoPadding, CbcPkcs7, Ctr, EcbNoPadd
 pub use Rattle.store_model.specs.Creation.{created, created_unless, identified, new_id, new_key, recorded_of, room_for_key_rows, stated_bits_rows, stated_bytes}
 pub use Rattle.store_model.specs.DerivationOperations.{DerivationStep, DerivationWork, GetCapacity, InputBytes, InputInteger, OutputBytes, SetCapacity, VerifyBytes, compared, derivation_step, derivation_work, derived, exhausted, info_step, input_bytes_rows, input_integer_rows, is_due, is_hkdf, is_info_due, is_salt_due, is_secret_due, next_derived, number_or_zero, output_key_rows, output_rows, salt_step, with_key, without}
 pub use Rattle.store_model.specs.Faults.{Corrupt, FaultMark, Hardware, Plain, Storage, is_of_fault}
-pub use Rattle.store_model.specs.HandleCalls.{Abort, AeadSetup, CipherSetup, DerivationSetup, HandleCall, HashSetup, InputKey, MacSetup, OnAead, OnCipher, OnDerivation, OnHash, OnMac, OutputKey, creation_of, derived_key, derived_key_of, handle_step, input_key, input_key_rows, is_setup, output_key, random_of, underived}
+pub use Rattle.store_model.specs.HandleCalls.{Abort, AeadSetup, CipherSetup, DerivationSetup, HandleCall, HashSetup, InputKey, MacSetup, OnAead, OnCipher, OnDerivation, OnHash, OnMac, OutputKey, creation_of, derived_key, derived_key_of, handle_step, input_key, input_key_rows, is_setup, output_key, underived}
 pub use Rattle.store_model.specs.Handles.{Authenticating, Ciphering, Deriving, HandleOperation, Hashing, Held, KeyCreation, Own, Sealing, Served, Service, Work, aead_part, applied, cipher_part, derivation_part, hash_part, held_after, is_alive, key_of_operation, mac_part, new_own, next_random, operation_of, own_of, part_of, service_of, stepped, untouched, with_drawn, with_operation, with_own}
 pub use Rattle.store_model.specs.HashOperations.{HashFinish, HashStep, HashUpdate, HashVerify, HashWork, hash_step, hash_work, total_rows}
 pub use Rattle.store_model.specs.KeyUse.{attributes_reply, bytes_of_key, destroy_rows, destroyed, export_rows, purge_reply}

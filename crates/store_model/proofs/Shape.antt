@@ -1,6 +1,6 @@
 -- The shape of any call on a handle: it leaves all operations, or makes a step of its own, or creates a key.
 use Rattle.std.proofs.Common.{Bool, Err, List, None, Ok, Option, Result, Some, [], ap, arith, cond, false, is_some, nat_lt, not, refl, subst, sym, true, ℕ, ◌++◌, ◌∷◌, ◌≡◌, ◌≤◌}
-use Rattle.store_model.proofs.Common.{Abort, Active, AeadSetup, AeadWork, After, AlreadyExists, Attributes, Authenticating, BadState, CipherSetup, CipherWork, Ciphering, Class, DerivationSetup, DerivationWork, Deriving, HandleCall, HandleOperation, HashSetup, HashWork, Hashing, Held, Inactive, InputKey, InsufficientData, InsufficientStorage, InvalidArgument, InvalidHandle, IsSoundHeld, IsSoundStore, IsSoundUse, IsSoundWork, Key, KeyCreation, KeyLimit, MacSetup, MacWork, NotPermitted, NotSupported, OnAead, OnCipher, OnDerivation, OnHandle, OnHash, OnMac, Operation, OutputKey, Rows, Sealing, Served, Service, Status, Store, Work, aead_part, aead_step, aead_work, applied, bytes_of_key, cipher_part, cipher_step, cipher_usage, cipher_work, class_rows, creation_of, derivation_part, derivation_step, derivation_work, derived_key, derived_key_of, done, ends, fails, first_row, goes_on, handle_step, hash_part, hash_step, hash_work, held_after, input_key, input_key_rows, is_active, is_alive, is_inactive, is_ready, key_of_operation, left_by, mac_part, mac_step, mac_usage, mac_work, may_change_keys, operation_of, output_key, output_key_rows, part_of, random_of, set_up, stated_bytes, stays, stepped, underived, unless, unless-ok, untouched, use_rows, with_key}
+use Rattle.store_model.proofs.Common.{Abort, Active, AeadSetup, AeadWork, After, AlreadyExists, Attributes, Authenticating, BadState, CipherSetup, CipherWork, Ciphering, Class, DerivationSetup, DerivationWork, Deriving, HandleCall, HandleOperation, HashSetup, HashWork, Hashing, Held, Inactive, InputKey, InsufficientData, InsufficientStorage, InvalidArgument, InvalidHandle, IsSoundHeld, IsSoundStore, IsSoundUse, IsSoundWork, Key, KeyCreation, KeyLimit, MacSetup, MacWork, NotPermitted, NotSupported, OnAead, OnCipher, OnDerivation, OnHandle, OnHash, OnMac, Operation, OutputKey, Rows, Sealing, Served, Service, Status, Store, Work, aead_part, aead_step, aead_work, applied, bytes_of_key, cipher_part, cipher_step, cipher_usage, cipher_work, class_rows, creation_of, derivation_part, derivation_step, derivation_work, derived_key, derived_key_of, done, ends, fails, first_row, goes_on, handle_step, hash_part, hash_step, hash_work, held_after, input_key, input_key_rows, is_active, is_alive, is_inactive, is_ready, key_of_operation, left_by, mac_part, mac_step, mac_usage, mac_work, may_change_keys, next_random, operation_of, output_key, output_key_rows, part_of, set_up, stated_bytes, stays, stepped, underived, unless, unless-ok, untouched, use_rows, with_key}
 use Rattle.std.specs.FinMap as map
 use Rattle.alg_encoding.specs.declared.table.Class.TheVariants as class
 use Rattle.store_model.proofs.Tables.{NoFault, RefusesPlainly, none_holds, refuses_plainly}
@@ -226,10 +226,10 @@ shape service caller handle (OnHash step) P cases =
 shape service caller handle (OnMac step) P cases =
     stepped_shape service caller handle _ P cases mac_part Authenticating own_mac (λ w. mac_step w step) (λ w. refl) (λ w. mac_is_step service.store _ w step) (unready_left (OnMac step) _) _ refl
 shape service caller handle (OnCipher step) P cases =
-    let random : List ℕ = random_of service caller in
+    let random : List ℕ = next_random service caller 16 in
     stepped_shape service caller handle _ P cases cipher_part Ciphering own_cipher (λ w. cipher_step random w step) (λ w. refl) (λ w. cipher_is_step service.store _ random w step) (unready_left (OnCipher step) _) _ refl
 shape service caller handle (OnAead step) P cases =
-    let random : List ℕ = random_of service caller in
+    let random : List ℕ = next_random service caller 16 in
     stepped_shape service caller handle _ P cases aead_part Sealing own_aead (λ w. aead_step random w step) (λ w. refl) (λ w. aead_is_step service.store _ random w step) (unready_left (OnAead step) _) _ refl
 shape service caller handle (OnDerivation step) P cases =
     stepped_shape service caller handle _ P cases derivation_part Deriving own_derivation (λ w. derivation_step w step) (λ w. derivation_lost service.store _ w step)

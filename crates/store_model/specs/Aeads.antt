@@ -1,7 +1,7 @@
 -- AEADs of a whole message: the ciphertext, and the tag behind it.
-use Rattle.std.specs.Prelude.{ℕ, ◌+◌, ◌-◌, ◌*◌, ◌^◌, not, nat_lt, nat_le, ◌||◌, ◌&&◌, ◌==◌, bytes_eq, Bool, false, true, List, ◌∷◌, ◌++◌, length, take, drop, if◌then◌else◌}
-use Rattle.store_model.specs.Common.{Aead, InvalidArgument, InvalidSignature, Outcome, Reply, Rows, Store, aes_encrypt, base_of, ccm_tag, ccm_text, first_row, gcm_tag, gcm_text, given, replies, reply_unless, spoiled, tag_bytes}
-use Rattle.store_model.specs.Rules.{using_key, room_rows, total_limit, cipher_usage}
+use Rattle.std.specs.Prelude.{ℕ, ◌+◌, ◌-◌, ◌*◌, ◌^◌, not, nat_lt, nat_le, ◌||◌, ◌&&◌, ◌==◌, bytes_eq, Bool, List, ◌∷◌, ◌++◌, length, take, drop, if◌then◌else◌}
+use Rattle.store_model.specs.Common.{InvalidArgument, InvalidSignature, Reply, Rows, aes_encrypt, base_of, ccm_tag, ccm_text, first_row, gcm_tag, gcm_text, given, reply_unless, spoiled, tag_bytes}
+use Rattle.store_model.specs.Rules.{room_rows, total_limit}
 
 abbrev pub is_ccm : ℕ → Bool
 is_ccm alg = base_of alg == 0x05400100
@@ -37,9 +37,6 @@ abbrev pub sealed_reply : ℕ → (key nonce ad input : List ℕ) → ℕ → Re
 sealed_reply alg key nonce ad input room =
     reply_unless (first_row (encrypt_rows alg (length nonce) (length ad) (length input) room)) (given (sealed alg key nonce ad input))
 
-abbrev pub step_aead_encrypt : Store → (id alg : ℕ) → (nonce ad input : List ℕ) → ℕ → Outcome
-step_aead_encrypt store id alg nonce ad input room = using_key store false Aead (cipher_usage true) alg id (λ key. replies (sealed_reply alg key nonce ad input room))
-
 -- aead_decrypt: the input ends with the tag.
 abbrev pub decrypt_rows : ℕ → (nonce ad input room : ℕ) → Rows
 decrypt_rows alg nonce ad input room =
@@ -56,6 +53,3 @@ abbrev pub opened_reply : ℕ → (key nonce ad input : List ℕ) → ℕ → Re
 opened_reply alg key nonce ad input room =
     let n : ℕ = length input - tag_bytes alg in
     reply_unless (first_row (decrypt_rows alg (length nonce) (length ad) (length input) room)) (opened_text alg key nonce ad (take n input) (drop n input))
-
-abbrev pub step_aead_decrypt : Store → (id alg : ℕ) → (nonce ad input : List ℕ) → ℕ → Outcome
-step_aead_decrypt store id alg nonce ad input room = using_key store false Aead (cipher_usage false) alg id (λ key. replies (opened_reply alg key nonce ad input room))

@@ -1,7 +1,7 @@
 -- Ciphers of a whole message.
 use Rattle.std.specs.Prelude.{ℕ, ◌+◌, ◌-◌, ◌%◌, not, nat_lt, ◌||◌, ◌&&◌, ◌==◌, Bool, true, false, List, ◌∷◌, ◌++◌, length, take, drop, Option, Some, None, if◌then◌else◌}
-use Rattle.store_model.specs.Common.{Cipher, Computed, InvalidArgument, InvalidPadding, Outcome, Random, Reply, Rows, Store, aes_decrypt, aes_encrypt, cbc_decrypt, cbc_encrypt, computed_unless, ctr_xor, ecb_decrypt, ecb_encrypt, first_row, given, pkcs7_padded, pkcs7_unpadded, replies, reply_unless, spoiled}
-use Rattle.store_model.specs.Rules.{using_key, room_rows, total_limit, cipher_usage}
+use Rattle.store_model.specs.Common.{Computed, InvalidArgument, InvalidPadding, Reply, Rows, aes_decrypt, aes_encrypt, cbc_decrypt, cbc_encrypt, computed_unless, ctr_xor, ecb_decrypt, ecb_encrypt, first_row, given, pkcs7_padded, pkcs7_unpadded, reply_unless, spoiled}
+use Rattle.store_model.specs.Rules.{room_rows, total_limit}
 
 pub data Mode : Type 0 where
   Ctr : Mode
@@ -55,11 +55,6 @@ abbrev pub encrypted : Mode → (iv key input : List ℕ) → ℕ → Computed
 encrypted mode iv key input room =
     computed_unless (first_row (encrypt_rows mode (length input) room)) (record { reply = given (iv ++ enciphered mode key iv input); drawn = iv_length mode })
 
-abbrev pub step_cipher_encrypt : Store → Random → (id alg : ℕ) → List ℕ → ℕ → Outcome
-step_cipher_encrypt store random id alg input room =
-    let mode : Mode = mode_of alg in
-    using_key store (is_ctr mode) Cipher (cipher_usage true) alg id (λ key. encrypted mode (random (iv_length mode)) key input room)
-
 -- cipher_decrypt: the input begins with the initialisation vector.
 
 abbrev pub is_ciphertext_length : Mode → ℕ → Bool
@@ -81,6 +76,3 @@ abbrev pub decrypted_reply : Mode → (key input : List ℕ) → ℕ → Reply
 decrypted_reply mode key input room =
     let n : ℕ = iv_length mode in
     reply_unless (first_row (decrypt_rows mode (length input) room)) (plain_or_zeros (length input - n) (deciphered mode key (take n input) (drop n input)))
-
-abbrev pub step_cipher_decrypt : Store → (id alg : ℕ) → List ℕ → ℕ → Outcome
-step_cipher_decrypt store id alg input room = using_key store (is_ctr (mode_of alg)) Cipher (cipher_usage false) alg id (λ key. replies (decrypted_reply (mode_of alg) key input room))

@@ -1,9 +1,7 @@
 -- COPY: a key of the source's bytes, with what both its policy and the stated one permit.
 use Rattle.std.specs.Prelude.{ℕ, Bool, not, ◌&&◌, ◌||◌, ◌==◌, [], ◌∷◌, length, bit_and, Option, Some, None, ok_or, Result, Err}
-use Rattle.std.specs.FinMap as map
-use Rattle.store_model.specs.Common.{Attributes, InvalidArgument, InvalidHandle, Key, NotPermitted, NotSupported, Outcome, Policy, Rows, Status, Store, first_row, location, meet_of, unless, ◌>>=◌}
-use Rattle.store_model.specs.KeyUse.{bytes_of_key}
-use Rattle.store_model.specs.Creation.{recorded_of, created_unless}
+use Rattle.store_model.specs.Common.{Attributes, InvalidArgument, InvalidHandle, Key, NotPermitted, NotSupported, Policy, Rows, Status, Store, first_row, location, meet_of, unless, ◌>>=◌}
+use Rattle.store_model.specs.Creation.{recorded_of}
 
 -- a stated number, where 0 states none, that isn't the source's
 abbrev pub differs : ℕ → ℕ → Bool
@@ -28,8 +26,3 @@ recorded_copy store caller (Some source) stated = do
   own ← unless (first_row (source_rows source.attributes stated)) source.attributes
   met ← ok_or (meet_of own.policy stated.policy) InvalidArgument
   recorded_of store caller (copy_attributes own stated met) (length source.bytes)
-
-abbrev pub step_copy : Store → ℕ → ℕ → Attributes → Outcome
-step_copy store caller source stated =
-    let found : Option Key = map.get store.keys source in
-    created_unless store caller (recorded_copy store caller found stated) (bytes_of_key found)

@@ -1,5 +1,5 @@
 -- Calls that create a key.
-use Rattle.std.specs.Prelude.{ℕ, ◌+◌, ◌/◌, ◌%◌, ◌^◌, not, nat_le, ◌==◌, ◌||◌, ◌&&◌, List, [], ◌∷◌, length, slice_set, is_some, Result, Ok, Err, if◌then◌else◌}
+use Rattle.std.specs.Prelude.{ℕ, ◌+◌, ◌/◌, ◌%◌, ◌^◌, not, nat_le, ◌==◌, ◌||◌, ◌&&◌, List, [], ◌∷◌, slice_set, is_some, Result, Ok, Err, if◌then◌else◌}
 use Rattle.std.specs.FinMap as map
 use Rattle.store_model.specs.Common.{AlreadyExists, Attributes, Identifier, InsufficientStorage, InvalidArgument, Key, KeyLimit, Outcome, Rows, Status, Store, Success, after_rules, checked, count_persistent, counted, first_row, has_secure_element, is_volatile, live_volatile, made_of, next_volatile, refused, unless, ◌>>=◌}
 
@@ -54,6 +54,3 @@ created store caller kept bytes =
 abbrev pub created_unless : Store → ℕ → Result Attributes Status → List ℕ → Outcome
 created_unless store caller (Ok kept) bytes = created store caller kept bytes
 created_unless store caller (Err status) bytes = refused store status
-
-abbrev pub step_import : Store → ℕ → Attributes → List ℕ → Outcome
-step_import store caller a bytes = created_unless store caller (recorded_of store caller a (length bytes)) bytes

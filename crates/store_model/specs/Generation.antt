@@ -11,6 +11,3 @@ generation_of store caller a = do
 abbrev pub generated : Store → ℕ → Random → ℕ → Result Attributes Status → Outcome
 generated store caller random n (Ok kept) = record (created store caller kept (random n)) { drawn = n }
 generated store caller random n (Err status) = refused store status
-
-abbrev pub step_generate : Store → ℕ → Random → Attributes → Outcome
-step_generate store caller random a = generated store caller random (stated_bytes a) (generation_of store caller a)

@@ -53,10 +53,7 @@ set_up_keyed service caller handle class usage alg id work =
     let found : Option Key = map.get service.store.keys id in
     set_up_with service caller handle (first_row (use_rows false class usage alg found)) (creation_of id found) (work (bytes_of_key found))
 
--- A KEY AS THE SECRET OF A DERIVATION: the flag DERIVE, the type DERIVE, or PASSWORD at a password step, and no device's
-
-abbrev pub derive_usage : ℕ
-derive_usage = 0x4000
+-- A KEY AS THE SECRET OF A DERIVATION: the flag DERIVE (4000), the type DERIVE, or PASSWORD at a password step, and no device's
 
 abbrev pub fits_step : (step key_type : ℕ) → Bool
 fits_step step key_type = key_type == 0x1200 || (not (step == secret_step) && key_type == 0x1203)
@@ -64,7 +61,7 @@ fits_step step key_type = key_type == 0x1200 || (not (step == secret_step) && ke
 abbrev pub derivation_key_rows : Option Key → (step alg : ℕ) → Rows
 derivation_key_rows None step alg = (true, InvalidHandle) ∷ []
 derivation_key_rows (Some key) step alg =
-    (not (may_use key.attributes.policy derive_usage alg), NotPermitted)
+    (not (may_use key.attributes.policy 0x4000 alg), NotPermitted)
     ∷ (not (fits_step step key.attributes.key_type.0), InvalidArgument)
     ∷ (is_opaque key.attributes, NotSupported)
     ∷ []
@@ -111,9 +108,6 @@ output_key service caller handle _ a = untouched service BadState
 
 -- ANY CALL
 
-abbrev pub random_of : Service → ℕ → List ℕ
-random_of service caller = next_random service caller 16
-
 abbrev pub handle_step : Service → (caller handle : ℕ) → HandleCall → Served
 handle_step service caller handle (HashSetup alg) = set_up_with service caller handle (first_row (class_rows class.Hash alg)) None (Hashing (hash_work alg))
 handle_step service caller handle (MacSetup verifies id alg) =
@@ -129,9 +123,9 @@ handle_step service caller handle (OnHash step) =
 handle_step service caller handle (OnMac step) =
     stepped service caller handle Authenticating (part_of mac_part (operation_of service caller handle)) (λ w. mac_step w step)
 handle_step service caller handle (OnCipher step) =
-    stepped service caller handle Ciphering (part_of cipher_part (operation_of service caller handle)) (λ w. cipher_step (random_of service caller) w step)
+    stepped service caller handle Ciphering (part_of cipher_part (operation_of service caller handle)) (λ w. cipher_step (next_random service caller 16) w step)
 handle_step service caller handle (OnAead step) =
-    stepped service caller handle Sealing (part_of aead_part (operation_of service caller handle)) (λ w. aead_step (random_of service caller) w step)
+    stepped service caller handle Sealing (part_of aead_part (operation_of service caller handle)) (λ w. aead_step (next_random service caller 16) w step)
 handle_step service caller handle (OnDerivation step) =
     stepped service caller handle Deriving (part_of derivation_part (operation_of service caller handle)) (λ w. derivation_step w step)
 handle_step service caller handle (InputKey step id) = input_key service caller handle (part_of derivation_part (operation_of service caller handle)) step id

@@ -1,6 +1,6 @@
 -- The service: the store, and the operations of the callers' handles.
 use Rattle.std.specs.Prelude.{ℕ, ◌+◌, Bool, true, false, ◌==◌, List, replicate, get_or, slice_set, Option, Some, None}
-use Rattle.store_model.specs.Common.{BadState, OpenedKey, Random, Reply, Settings, Status, Store, caller_count, counted, option_map_or, refusal, start_of}
+use Rattle.store_model.specs.Common.{BadState, Random, Reply, Status, Store, caller_count, counted, option_map_or, refusal}
 use Rattle.std.specs.FinMap as map
 use Rattle.random_streams.specs.RandomWords.{random_bytes, words_used}
 use Rattle.store_model.specs.Operations.{Operation, Inactive, InError, Active, After, with_live_key}
@@ -49,9 +49,6 @@ new_own = record { drawn = 0; operations = replicate (handle_count + 1) Inactive
 
 abbrev pub service_of : Store → Service
 service_of store = record { store = store; owns = replicate (caller_count + 1) new_own }
-
-abbrev pub service_start : Settings → List OpenedKey → Service
-service_start settings found = service_of (start_of settings found)
 
 abbrev pub own_of : Service → ℕ → Own
 own_of service caller = get_or service.owns caller new_own

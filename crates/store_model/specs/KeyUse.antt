@@ -1,6 +1,6 @@
 -- Calls on a key that is there.
 use Rattle.std.specs.Prelude.{ℕ, true, not, nat_lt, ◌==◌, ◌&&◌, List, [], ◌∷◌, length, bit_and, Option, Some, None, is_some}
-use Rattle.store_model.specs.Common.{BufferTooSmall, Description, InvalidHandle, Key, NotPermitted, NotSupported, Outcome, Reply, Rows, Store, Success, counted, decided, done, first_row, given, is_opaque, option_map_or, refusal, replies, reply_unless, with_computed}
+use Rattle.store_model.specs.Common.{BufferTooSmall, Description, InvalidHandle, Key, NotPermitted, NotSupported, Outcome, Reply, Rows, Store, Success, counted, done, first_row, given, is_opaque, option_map_or, refusal, reply_unless}
 use Rattle.std.specs.FinMap as map
 
 -- EXPORT, whose flag is 1, of a key that no secure element holds
@@ -18,17 +18,11 @@ bytes_of_key found = option_map_or (λ key. key.bytes) found []
 abbrev pub export_reply : Option Key → ℕ → Reply
 export_reply found room = reply_unless (first_row (export_rows found room)) (given (bytes_of_key found))
 
-abbrev pub step_export : Store → ℕ → ℕ → Outcome
-step_export store id room = with_computed store (replies (export_reply (map.get store.keys id) room))
-
 -- GET ATTRIBUTES
 
 abbrev pub attributes_reply : Option Key → Reply
 attributes_reply None = refusal InvalidHandle
 attributes_reply (Some key) = record { status = Success; output = Description key.attributes; needed = 0 }
-
-abbrev pub step_attributes : Store → ℕ → Outcome
-step_attributes store id = with_computed store (replies (attributes_reply (map.get store.keys id)))
 
 -- DESTROY: destroying no key succeeds
 
@@ -38,14 +32,8 @@ destroy_rows found id = (not (id == 0) && not (is_some found), InvalidHandle) �
 abbrev pub destroyed : Store → ℕ → Outcome
 destroyed store id = record { store = record (counted store) { keys = map.remove store.keys id }; reply = done; drawn = 0 }
 
-abbrev pub step_destroy : Store → ℕ → Outcome
-step_destroy store id = decided store (first_row (destroy_rows (map.get store.keys id) id)) (destroyed store id)
-
 -- PURGE: a key that is kept in a file leaves the memory, which is nothing to the model
 
 abbrev pub purge_reply : Option Key → Reply
 purge_reply None = refusal InvalidHandle
 purge_reply (Some key) = done
-
-abbrev pub step_purge : Store → ℕ → Outcome
-step_purge store id = with_computed store (replies (purge_reply (map.get store.keys id)))

@@ -7,9 +7,9 @@ pub use Rattle.store_model.specs.Draws.{Random}
 pub use Rattle.store_model.specs.Algorithms.{cmac_base, digest, hash_block_length, hash_length_of, hash_of, is_hmac, low_byte, mac_of, tag_bytes, whole_mac}
 pub use Rattle.store_model.specs.Rules.{cipher_usage, class_number, class_rows, fits_type, is_of_class, mac_usage, room_rows, total_limit, use_rows}
 pub use Rattle.store_model.specs.Creation.{created, created_unless, identified, made_with, new_id, new_key, recorded_of, room_for_key_rows, stated_bits_rows}
-pub use Rattle.store_model.specs.Copies.{copy_attributes, differs, recorded_copy, source_rows, step_copy}
+pub use Rattle.store_model.specs.Copies.{copy_attributes, differs, recorded_copy, source_rows}
 pub use Rattle.store_model.specs.Generation.{generated, generation_of}
-pub use Rattle.store_model.specs.KeyUse.{attributes_reply, bytes_of_key, destroy_rows, destroyed, export_reply, export_rows, purge_reply, step_destroy}
+pub use Rattle.store_model.specs.KeyUse.{attributes_reply, bytes_of_key, destroy_rows, destroyed, export_reply, export_rows, purge_reply}
 pub use Rattle.store_model.specs.Hashes.{compared_reply, hash_reply}
 pub use Rattle.store_model.specs.Macs.{compute_rows, mac_reply, verified_reply}
 pub use Rattle.store_model.specs.Ciphers.{CbcNoPadding, CbcPkcs7, Ctr, EcbNoPadding, Mode, deciphered, decrypt_rows, decrypted_reply, enciphered, enciphered_length, encrypt_rows, encrypted, is_ciphertext_length, is_ctr, iv_length, mode_of, plain_or_zeros, takes_whole_blocks}
@@ -21,8 +21,8 @@ pub use Rattle.store_model.specs.MacOperations.{MacSignFinish, MacUpdate, MacVer
 pub use Rattle.store_model.specs.CipherOperations.{CipherFinish, CipherGenerateIv, CipherSetIv, CipherUpdate, CipherWork, bytes_or_empty, cipher_due, cipher_finish_rows, cipher_fresh, cipher_step, cipher_update_rows, cipher_work, due_deciphered, due_enciphered, generate_iv_rows, is_whole_text, last_length, last_part, set_iv_rows, takes_iv, takes_text, whole_text, with_iv, with_text}
 pub use Rattle.store_model.specs.AeadOperations.{AeadFinish, AeadGenerateNonce, AeadSetLengths, AeadSetNonce, AeadUpdate, AeadUpdateAd, AeadVerify, AeadWork, aead_due, aead_fresh, aead_step, aead_update_rows, aead_work, declared_payload, generate_nonce_rows, is_past_ad, is_past_payload, is_whole_ad, is_whole_payload, nonce_length, set_lengths_rows, set_nonce_rows, takes_nonce, update_ad_rows, whole_rows, with_ad, with_lengths, with_nonce, with_payload, work_tag}
 pub use Rattle.store_model.specs.DerivationOperations.{DerivationStep, DerivationWork, GetCapacity, InputBytes, InputInteger, OutputBytes, SetCapacity, VerifyBytes, compared, derivation_step, derivation_work, derived, exhausted, info_step, input_bytes_rows, input_integer_rows, is_due, is_hkdf, is_salt_due, is_secret_due, key_step, key_step_rows, next_derived, output_key_rows, output_rows, salt_step, taken_from, takes_bytes, with_bytes, with_key, without}
-pub use Rattle.store_model.specs.Handles.{Authenticating, Ciphering, Deriving, HandleOperation, Hashing, Held, KeyCreation, Own, Sealing, Served, Service, Work, aead_part, applied, cipher_part, derivation_part, hash_part, held_after, held_with, is_alive, key_of_operation, mac_part, new_own, next_random, operation_of, own_of, part_of, service_of, service_start, stepped, untouched, with_drawn, with_operation, with_own}
-pub use Rattle.store_model.specs.HandleCalls.{Abort, AeadSetup, CipherSetup, DerivationSetup, HandleCall, HashSetup, InputKey, MacSetup, OnAead, OnCipher, OnDerivation, OnHash, OnMac, OutputKey, creation_of, derivation_key_rows, derived_key, fits_step, handle_step, input_key, input_key_rows, is_setup, output_key, random_of, underived}
+pub use Rattle.store_model.specs.Handles.{Authenticating, Ciphering, Deriving, HandleOperation, Hashing, Held, KeyCreation, Own, Sealing, Served, Service, Work, aead_part, applied, cipher_part, derivation_part, hash_part, held_after, held_with, is_alive, key_of_operation, mac_part, new_own, next_random, operation_of, own_of, part_of, service_of, stepped, untouched, with_drawn, with_operation, with_own}
+pub use Rattle.store_model.specs.HandleCalls.{Abort, AeadSetup, CipherSetup, DerivationSetup, HandleCall, HashSetup, InputKey, MacSetup, OnAead, OnCipher, OnDerivation, OnHash, OnMac, OutputKey, creation_of, derivation_key_rows, derived_key, fits_step, handle_step, input_key, input_key_rows, is_setup, output_key, underived}
 pub use Rattle.store_model.specs.Requests.{OnHandle, OnStore, Request, failed_step, on_store, plain_step, serve}
 pub use Rattle.store_model.specs.Replay.{Entry, outcome_of, replay, reply_at}
 pub use Rattle.store_model.specs.Marks.{AreAllowed, FaultCounts, HasFault, IsCaused, MayBeMarked, asks_device, computed_with, id_read, is_of_computed, key_answered, key_changed, last_counts, reads_persistent, takes_key}

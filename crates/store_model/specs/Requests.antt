@@ -23,16 +23,13 @@ abbrev pub plain_step : Service → ℕ → Request → Served
 plain_step service caller (OnStore call) = on_store service caller (step service.store caller (next_random service caller) call)
 plain_step service caller (OnHandle handle call) = handle_step service caller handle call
 
--- where a device failed, a setup leaves the handle, and any other call on one puts its operation in error
-abbrev pub failed_operation : HandleCall → HandleOperation → HandleOperation
-failed_operation call operation = if is_setup call then operation else InError
-
--- what is left where a device failed: a destruction removes its key all the same, and any other call on the store leaves the keys
+-- What is left where a device failed: a destruction removes its key all the same, and any other call on the store leaves the keys. A
+-- setup leaves its handle, and any other call on a handle puts its operation in error.
 abbrev pub failed_step : Service → ℕ → Request → Service
 failed_step service caller (OnStore (Destroy id)) = record service { store = (destroyed service.store id).store }
 failed_step service caller (OnStore call) = record service { store = counted service.store }
 failed_step service caller (OnHandle handle call) =
-    let left : HandleOperation = failed_operation call (operation_of service caller handle) in
+    let left : HandleOperation = if is_setup call then operation_of service caller handle else InError in
     with_own service (counted service.store) caller (with_operation (own_of service caller) handle left)
 
 -- a request and its mark

@@ -5,7 +5,7 @@ use Rattle.store_model.specs.Common.{Attributes, Destroy, FaultMark, Key, Opened
 use Rattle.store_model.specs.Creation.{identified}
 use Rattle.store_model.specs.Operations.{Active}
 use Rattle.store_model.specs.DerivationOperations.{DerivationWork, full_capacity, is_hkdf}
-use Rattle.store_model.specs.Handles.{KeyCreation, Work, Deriving, Held, HandleOperation, Service, handle_count, service_start, own_of, operation_of, key_of_operation, is_alive}
+use Rattle.store_model.specs.Handles.{KeyCreation, Work, Deriving, Held, HandleOperation, Service, handle_count, own_of, operation_of, key_of_operation, is_alive, service_of}
 use Rattle.store_model.specs.Requests.{Request, OnStore, serve}
 
 -- THE STORE
@@ -90,7 +90,7 @@ AreFoundKeys store (key ∷ keys) =
 abbrev pub StartsSound : Type 0
 StartsSound =
     (settings : Settings) (found : List OpenedKey) → AreFoundKeys (start_of settings found) found → length found ≤ 512 →
-    IsSound (service_start settings found)
+    IsSound (service_of (start_of settings found))
 
 abbrev pub StaysSound : Type 0
 StaysSound =
