@@ -1,7 +1,5 @@
 -- What each change of a slot makes of slots that stand for the keys.
-use Rattle.std.proofs.Common.{Bool, List, None, Option, Some, [], ap, arith, cond, eq-eqb, false, inl, inr, length, refl, replicate, set, sym, true, ℕ, ◌&&◌, ◌+◌, ◌-◌, ◌<◌, ◌==◌, ◌∙◌, ◌≡◌, ◌≢◌}
-use Rattle.key_slots.proofs.Common.{Agrees, Attributes, Empty, Filling, Full, Gains, EndsOnly, HasNumber, IsGone, IsIdleOf, IsLawful, IsLawfulSlot, IsNext, IsSoundStore, IsThereOrNew, IsVolatileKey, HasSameKeys, Key, NoKey, OnFalse, OnTrue, Pairs, Pending, Puts, Slot, SlotHasKey, SlotState, StandsAt, Store, Table, at_each, cases_eq, cases_lt, destroyed_slot, empty_slot, false≢true, filling_slot, find_passes, full_slot, full_within, holds_key, idle_is_full, idle_is_unread, is_empty_state, is_filling, is_full, is_idle, is_last, is_pending, is_volatile, key_is_full, left, named, nat_tests, next_is_unread, next_within, pairs_on, persistence, registered, same, slot_at, slot_at-set_other, slot_at-set_same}
-use Rattle.std.specs.FinMap as map
+use Rattle.key_slots.proofs.Common.{[], Agrees, ap, arith, at_each, Attributes, Bool, cases_eq, cases_lt, cond, destroyed_slot, Empty, empty_slot, EndsOnly, eq-eqb, false, false≢true, Filling, filling_slot, find_passes, Full, full_slot, full_within, Gains, HasNumber, HasSameKeys, holds_key, idle_is_full, idle_is_unread, inl, inr, is_empty_state, is_filling, is_full, is_idle, is_last, is_pending, is_volatile, IsGone, IsIdleOf, IsLawful, IsLawfulSlot, IsNext, IsSoundStore, IsThereOrNew, IsVolatileKey, Key, key_is_full, left, length, List, map_get, named, nat_tests, next_is_unread, next_within, NoKey, None, OnFalse, OnTrue, Option, Pairs, pairs_on, Pending, persistence, Puts, refl, registered, replicate, same, set, Slot, slot_at, slot_at-set_other, slot_at-set_same, SlotHasKey, SlotState, Some, StandsAt, Store, sym, Table, true, ℕ, ◌&&◌, ◌+◌, ◌-◌, ◌<◌, ◌==◌, ◌∙◌, ◌≡◌, ◌≢◌}
 use Rattle.std.proofs.lemmas.Bool.{and_parts, eqb-true}
 use Rattle.std.proofs.lemmas.List.{get_or-replicate}
 use Rattle.std.proofs.lemmas.Option.{none-some, same_Some}
@@ -25,7 +23,7 @@ wiped store all i s used pending held = record {
 -- one slot changes, and the keys stay: it has the volatile keys that it had
 changed : (slots : List Slot) (store : Store) (all more : List Pairs) (i : ℕ) (s : Slot) → length slots ≡ 384 → i < 384 → Agrees slots store all →
     ((j n : ℕ) → j ≢ i → named j n more ≡ named j n all) → StandsAt store more i s →
-    ((id : ℕ) (key : Key) → map.get store.keys id ≡ Some key → is_volatile key.attributes ≡ true → holds_key id (slot_at slots i) ≡ true → holds_key id s ≡ true) →
+    ((id : ℕ) (key : Key) → map_get store.keys id ≡ Some key → is_volatile key.attributes ≡ true → holds_key id (slot_at slots i) ≡ true → holds_key id s ≡ true) →
     Agrees (set slots i s) store more
 changed slots store all more i s sized inside a others here keeps =
     let within : i < length slots = omega arith in
@@ -84,11 +82,11 @@ unused s n unread still = ap (λ b. counted b s.creation s.readers n) still ∙ 
 same_id : (id : ℕ) (s : Slot) → holds_key id s ≡ true → s.attributes.id.0 ≡ id
 same_id id s has = eqb-true s.attributes.id.0 id (and_parts (is_full s.state) (s.attributes.id.0 == id) has).1
 
-pub key_of_slot : (slots : List Slot) (store : Store) (all : List Pairs) (id i : ℕ) → Agrees slots store all → i < 384 → holds_key id (slot_at slots i) ≡ true → (key : Key) × (map.get store.keys id ≡ Some key) × SlotHasKey (slot_at slots i) key
+pub key_of_slot : (slots : List Slot) (store : Store) (all : List Pairs) (id i : ℕ) → Agrees slots store all → i < 384 → holds_key id (slot_at slots i) ≡ true → (key : Key) × (map_get store.keys id ≡ Some key) × SlotHasKey (slot_at slots i) key
 key_of_slot slots store all id i a inside has =
     let s = slot_at slots i in
     let f = (a.each i inside).full (ap is_full (key_is_full id s has)) in
-    (f.0, ap (map.get store.keys) (sym (same_id id s has)) ∙ f.1, f.2)
+    (f.0, ap (map_get store.keys) (sym (same_id id s has)) ∙ f.1, f.2)
 
 -- the table has 384 slots
 inside_of : (t : Table) (i : ℕ) → IsLawful t → i < length t.slots → i < 384
@@ -101,7 +99,7 @@ idle_persists s is =
     ap (λ n. n == 0) (eqb-true (persistence s.attributes.lifetime.0) 1 kept)
 
 -- and so it has no volatile one
-not_volatile : (slots : List Slot) (store : Store) (all : List Pairs) (id i : ℕ) (key : Key) → Agrees slots store all → i < 384 → is_idle (slot_at slots i) ≡ true → map.get store.keys id ≡ Some key → is_volatile key.attributes ≡ true → holds_key id (slot_at slots i) ≡ true → ⊥
+not_volatile : (slots : List Slot) (store : Store) (all : List Pairs) (id i : ℕ) (key : Key) → Agrees slots store all → i < 384 → is_idle (slot_at slots i) ≡ true → map_get store.keys id ≡ Some key → is_volatile key.attributes ≡ true → holds_key id (slot_at slots i) ≡ true → ⊥
 not_volatile slots store all id i key a inside idle is volatile has =
     let k = key_of_slot slots store all id i a inside has in
     let same = same_Some key k.0 (sym is ∙ k.1) in
@@ -129,7 +127,7 @@ next_is_still t i next = elim next [
 ]
 
 -- and has no volatile one
-next_not_volatile : (t : Table) (store : Store) (all : List Pairs) (id i : ℕ) (key : Key) → IsNext t i → Agrees t.slots store all → i < 384 → map.get store.keys id ≡ Some key → is_volatile key.attributes ≡ true → holds_key id (slot_at t.slots i) ≡ true → ⊥
+next_not_volatile : (t : Table) (store : Store) (all : List Pairs) (id i : ℕ) (key : Key) → IsNext t i → Agrees t.slots store all → i < 384 → map_get store.keys id ≡ Some key → is_volatile key.attributes ≡ true → holds_key id (slot_at t.slots i) ≡ true → ⊥
 next_not_volatile t store all id i key next a inside is volatile has = elim next [
   | inl free ↦ false≢true (ap is_full (sym (only_empty (slot_at t.slots i).state free.1)) ∙ ap is_full (key_is_full id (slot_at t.slots i) has))
   | inr idle ↦ not_volatile t.slots store all id i key a inside (find_passes (λ k. is_idle (slot_at t.slots k)) t.recency i idle.1) is volatile has
@@ -259,7 +257,7 @@ gone_on : (old new : Store) (id c : ℕ) (found : Option Key) → Puts old new i
 gone_on old new id c found puts not_it gone = record {
   given = let before = gone.given in let more = puts.given in omega arith;
   absent = λ q key is number. elim (cases_eq q id) [
-    | inl same ↦ not_it key (sym puts.here ∙ ap (map.get new.keys) (sym same) ∙ is) number
+    | inl same ↦ not_it key (sym puts.here ∙ ap (map_get new.keys) (sym same) ∙ is) number
     | inr other ↦ gone.absent q key (sym (puts.others q other) ∙ is) number
   ];
 }
@@ -319,10 +317,10 @@ destroys t old new all id i law sound has puts a =
           let f = a.found q x (sym (puts.others q other) ∙ is) volatile in
           (f.0, f.1, at_each (λ k y. holds_key q (slot_at t.slots k) ≡ true → holds_key q y ≡ true) t.slots i (destroyed_slot s) within (λ had. absurd (other (sym (same_id q s had) ∙ same_id id s has))) (λ k apart had. had) f.0 f.2);
     } where
-      not_id : (q : ℕ) (x : Key) → map.get new.keys q ≡ Some x → q ≢ id
-      not_id q x is same = none-some x (sym puts.here ∙ ap (map.get new.keys) (sym same) ∙ is)
+      not_id : (q : ℕ) (x : Key) → map_get new.keys q ≡ Some x → q ≢ id
+      not_id q x is same = none-some x (sym puts.here ∙ ap (map_get new.keys) (sym same) ∙ is)
 
-      here : (s : Slot) → StandsAt old all i s → s.state ≡ Full → (key : Key) × (map.get old.keys id ≡ Some key) × SlotHasKey s key → (b : Bool) → (s.readers == 0) ≡ b → StandsAt new all i (cond b empty_slot (record s { state = Pending }))
+      here : (s : Slot) → StandsAt old all i s → s.state ≡ Full → (key : Key) × (map_get old.keys id ≡ Some key) × SlotHasKey s key → (b : Bool) → (s.readers == 0) ≡ b → StandsAt new all i (cond b empty_slot (record s { state = Pending }))
       here s at full k true unread = wiped new all i empty_slot refl refl (λ n. at.held n ∙ unused s n (eqb-true s.readers 0 unread) (ap is_filling full) ∙ sym (nobody 0 n))
       here s at full k false read = record {
         held = λ n. at.held n ∙ ap (λ x. counted (is_filling x) s.creation s.readers n) full;
@@ -340,18 +338,18 @@ pub quiet : (slots : List Slot) (old new : Store) (all : List Pairs) → Agrees 
 quiet slots old new all a keeps = record {
   each = λ k lt. let at = a.each k lt in record {
     held = at.held;
-    full = λ is. let f = at.full is in (f.0, ap (λ (m : _). map.get m (slot_at slots k).attributes.id.0) keeps.keys ∙ f.1, f.2);
+    full = λ is. let f = at.full is in (f.0, ap (λ (m : _). map_get m (slot_at slots k).attributes.id.0) keeps.keys ∙ f.1, f.2);
     pending = λ is. let gone = at.pending is in record {
       given = let before = gone.given in let more = keeps.given in omega arith;
-      absent = λ q x is number. gone.absent q x (ap (λ (m : _). map.get m q) (sym keeps.keys) ∙ is) number;
+      absent = λ q x is number. gone.absent q x (ap (λ (m : _). map_get m q) (sym keeps.keys) ∙ is) number;
     };
   };
   beyond = a.beyond;
-  found = λ q x is volatile. a.found q x (ap (λ (m : _). map.get m q) (sym keeps.keys) ∙ is) volatile;
+  found = λ q x is volatile. a.found q x (ap (λ (m : _). map_get m q) (sym keeps.keys) ∙ is) volatile;
 }
 
 -- empty slots
-pub empty_ones : (store : Store) (callers : ℕ) → ((id : ℕ) → IsVolatileKey (map.get store.keys id) → ⊥) → Agrees (replicate 384 empty_slot) store (replicate callers [])
+pub empty_ones : (store : Store) (callers : ℕ) → ((id : ℕ) → IsVolatileKey (map_get store.keys id) → ⊥) → Agrees (replicate 384 empty_slot) store (replicate callers [])
 empty_ones store callers none = record {
   each = λ k lt. rw (get_or-replicate 384 k empty_slot empty_slot lt) (wiped store (replicate callers []) k empty_slot refl refl (λ n. nothing_out callers k n ∙ sym (nobody 0 n)));
   beyond = λ k n past. nothing_out callers k n;

@@ -14,3 +14,5 @@ pub use Rattle.std.proofs.lemmas.Bool.Decides.{nat_tests}
 pub use Rattle.std.proofs.lemmas.Cmp.{nat_cmp_total, ranked}
 pub use Rattle.std.specs.Bool.{OnFalse, OnTrue}
 pub use Rattle.store_model.specs.Prelude.{HasNumber, IsChecked, IsSoundStore, Key, Store, as_stated, has_secure_element, identified, is_volatile, is_volatile_of}
+pub use Rattle.std.proofs.Common.{[], All, ap, arith, Bool, cond, count_by, eq-eqb, eqb, false, find, inl, inr, is_some, length, List, nat_lt, ne_eqb, None, not, Ok, Option, refl, replicate, set, Some, suc, sym, true, zero, ℕ, ⊎_elim, ◌&&◌, ◌*◌, ◌+◌, ◌-◌, ◌/◌, ◌<◌, ◌==◌, ◌^◌, ◌||◌, ◌∙◌, ◌∷◌, ◌≡◌, ◌≢◌, ◌≤◌, ◌⊎◌}
+pub use Rattle.std.specs.FinMap.{FinMap as map_FinMap, empty_of_len as map_empty_of_len, get as map_get, get-empty as map_get-empty, get-remove as map_get-remove, get-retain_keys as map_get-retain_keys, len as map_len, len-remove as map_len-remove, remove as map_remove, retain_keys}

@@ -1,11 +1,9 @@
 -- How many slots are in use.
-use Rattle.std.proofs.Common.{All, Bool, List, None, Ok, Option, Some, [], ap, arith, cond, count_by, false, inl, inr, is_some, length, nat_lt, not, refl, suc, sym, true, ℕ, ◌&&◌, ◌*◌, ◌+◌, ◌-◌, ◌/◌, ◌<◌, ◌==◌, ◌^◌, ◌||◌, ◌∙◌, ◌∷◌, ◌≡◌, ◌≢◌, ◌≤◌, ◌⊎◌, ⊎_elim, eq-eqb}
-use Rattle.key_slots.proofs.Common.{Agrees, AreHoldings, Attributes, CanReserve, Empty, Filling, Full, IsChecked, IsHolding, IsLawful, IsLawfulSlot, IsSoundStore, Key, Pairs, Pending, Slot, SlotHasKey, SlotState, Store, Table, as_stated, cases_eq, false≢true, has_secure_element, identified, is_empty_state, is_filling, is_full, is_idle, is_lifetime, is_volatile, is_volatile_of, location, named, names, nat_tests, persistence, ranked, same, slot_at}
+use Rattle.key_slots.proofs.Common.{[], Agrees, All, ap, AreHoldings, arith, as_stated, Attributes, Bool, CanReserve, cases_eq, cond, count_by, Empty, eq-eqb, false, false≢true, Filling, Full, has_secure_element, identified, inl, inr, is_empty_state, is_filling, is_full, is_idle, is_lifetime, is_some, is_volatile, is_volatile_of, IsChecked, IsHolding, IsLawful, IsLawfulSlot, IsSoundStore, Key, length, List, location, map_get, map_get-retain_keys, named, names, nat_lt, nat_tests, None, not, Ok, Option, Pairs, Pending, persistence, ranked, refl, retain_keys, same, Slot, slot_at, SlotHasKey, SlotState, Some, Store, suc, sym, Table, true, ℕ, ⊎_elim, ◌&&◌, ◌*◌, ◌+◌, ◌-◌, ◌/◌, ◌<◌, ◌==◌, ◌^◌, ◌||◌, ◌∙◌, ◌∷◌, ◌≡◌, ◌≢◌, ◌≤◌, ◌⊎◌}
 use Rattle.std.proofs.lemmas.Bool.{and_from, and_parts, or_cases}
 use Rattle.std.proofs.lemmas.List.Elements.{All-head, All-tail}
 use Rattle.std.proofs.lemmas.List.Sums.{sum_by-cons}
 use Rattle.std.specs.declared.cmp.Ordering.TheVariants.{Equal}
-use Rattle.std.specs.FinMap as map
 use Rattle.psa_status.specs.declared.Status.{Status}
 use Rattle.psa_status.specs.declared.Status.TheVariants.{NotSupported}
 use Rattle.psa_status.specs.Rows.{unless}
@@ -69,21 +67,21 @@ is_of_caller caller s = is_full s.state && (is_volatile s.attributes && is_volat
 few_of_caller : (t : Table) (store : Store) (all : List Pairs) → IsLawful t → Agrees t.slots store all → IsSoundStore store → (caller : ℕ) →
     total (λ i. cond (is_of_caller caller (slot_at t.slots i)) 1 0) 384 ≤ 16
 few_of_caller t store all law a sound caller =
-    let fit = into_map (map.retain_keys store.keys (is_volatile_of caller)) (λ i. (slot_at t.slots i).attributes.id.0) (λ i. is_of_caller caller (slot_at t.slots i)) 384 has one in
+    let fit = into_map (retain_keys store.keys (is_volatile_of caller)) (λ i. (slot_at t.slots i).attributes.id.0) (λ i. is_of_caller caller (slot_at t.slots i)) 384 has one in
     let live = sound.live caller in
     omega arith where
       parts : (i : ℕ) → is_of_caller caller (slot_at t.slots i) ≡ true → (is_full (slot_at t.slots i).state ≡ true) × ((is_volatile (slot_at t.slots i).attributes ≡ true) × (is_volatile_of caller (slot_at t.slots i).attributes.id.0 ≡ true))
       parts i is = let s = slot_at t.slots i in let rest = and_parts (is_full s.state) _ is in (rest.0, and_parts (is_volatile s.attributes) (is_volatile_of caller s.attributes.id.0) rest.1)
 
-      kept : (q : ℕ) → map.get (map.retain_keys store.keys (is_volatile_of caller)) q ≡ cond (is_volatile_of caller q) (map.get store.keys q) None
-      kept q = map.get-retain_keys store.keys (is_volatile_of caller) q (λ x tied. ap (is_volatile_of caller) (sym (ranked q x Equal (sym tied))))
+      kept : (q : ℕ) → map_get (retain_keys store.keys (is_volatile_of caller)) q ≡ cond (is_volatile_of caller q) (map_get store.keys q) None
+      kept q = map_get-retain_keys store.keys (is_volatile_of caller) q (λ x tied. ap (is_volatile_of caller) (sym (ranked q x Equal (sym tied))))
 
-      has : (i : ℕ) → i < 384 → is_of_caller caller (slot_at t.slots i) ≡ true → is_some (map.get (map.retain_keys store.keys (is_volatile_of caller)) (slot_at t.slots i).attributes.id.0) ≡ true
+      has : (i : ℕ) → i < 384 → is_of_caller caller (slot_at t.slots i) ≡ true → is_some (map_get (retain_keys store.keys (is_volatile_of caller)) (slot_at t.slots i).attributes.id.0) ≡ true
       has i lt is =
           let p = parts i is in
           let id = (slot_at t.slots i).attributes.id.0 in
           let f = (a.each i lt).full p.0 in
-          ap is_some (kept id ∙ ap (λ b. cond b (map.get store.keys id) None) p.1.1 ∙ f.1)
+          ap is_some (kept id ∙ ap (λ b. cond b (map_get store.keys id) None) p.1.1 ∙ f.1)
 
       one : (i j : ℕ) → i < 384 → j < 384 → is_of_caller caller (slot_at t.slots i) ≡ true → is_of_caller caller (slot_at t.slots j) ≡ true → (slot_at t.slots i).attributes.id.0 ≡ (slot_at t.slots j).attributes.id.0 → i ≡ j
       one i j at_i at_j is_i is_j same_id =
@@ -108,7 +106,7 @@ unfolding callers_of
 callers_of-at s c lt = total-at (λ k. cond (is_of_caller (k + 1) s) 1 0) c 16 lt
 
 -- a slot with a volatile key has a caller's
-has_caller : (store : Store) (s : Slot) → IsSoundStore store → is_full s.state ≡ true → is_volatile s.attributes ≡ true → (key : Key) × (map.get store.keys s.attributes.id.0 ≡ Some key) × SlotHasKey s key → 1 ≤ callers_of s
+has_caller : (store : Store) (s : Slot) → IsSoundStore store → is_full s.state ≡ true → is_volatile s.attributes ≡ true → (key : Key) × (map_get store.keys s.attributes.id.0 ≡ Some key) × SlotHasKey s key → 1 ≤ callers_of s
 has_caller store s sound full volatile k =
     let own = (sound.keys s.attributes.id.0 k.0 k.1).volatile (ap is_volatile (sym k.2.attributes) ∙ volatile) in
     let c = k.0.creator in

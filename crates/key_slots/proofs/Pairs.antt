@@ -1,8 +1,7 @@
 -- How often the holdings name a slot.
 
 -- how many pairs name a slot with the second number n: f where it waits for its key, and r readers of the key number c
-use Rattle.std.proofs.Common.{Bool, List, [], arith, cond, eqb, false, refl, replicate, suc, true, zero, ℕ, ◌+◌, ◌-◌, ◌<◌, ◌≡◌, ◌≢◌}
-use Rattle.key_slots.proofs.Common.{Gains, Pairs, named, nat_tests, same}
+use Rattle.key_slots.proofs.Common.{[], arith, Bool, cond, eqb, false, Gains, List, named, nat_tests, Pairs, refl, replicate, same, suc, true, zero, ℕ, ◌+◌, ◌-◌, ◌<◌, ◌≡◌, ◌≢◌}
 
 abbrev pub counted : (f : Bool) (c r n : ℕ) → ℕ
 counted f c r n = cond (eqb n 0) (cond f 1 0) (cond (eqb n (c + 1)) r 0)

@@ -1,9 +1,7 @@
 -- Sums over the numbers below a bound, and how many keys of a map can be named.
-use Rattle.std.proofs.Common.{Bool, None, ap, arith, cond, false, inl, inr, is_some, refl, suc, sym, true, zero, ℕ, ◌*◌, ◌+◌, ◌-◌, ◌<◌, ◌∙◌, ◌≡◌, ◌≢◌, ◌≤◌, ◌⊎◌, ne_eqb}
-use Rattle.key_slots.proofs.Common.{cases_eq, false≢true, nat_cmp_total}
+use Rattle.key_slots.proofs.Common.{ap, arith, Bool, cases_eq, cond, false, false≢true, inl, inr, is_some, map_empty_of_len, map_FinMap, map_get, map_get-empty, map_get-remove, map_len, map_len-remove, map_remove, nat_cmp_total, ne_eqb, None, refl, suc, sym, true, zero, ℕ, ◌*◌, ◌+◌, ◌-◌, ◌<◌, ◌∙◌, ◌≡◌, ◌≢◌, ◌≤◌, ◌⊎◌}
 use Rattle.std.specs.Cmp.{unsigned_tied}
 use Rattle.std.specs.Ordering.{nat_cmp}
-use Rattle.std.specs.FinMap as map
 
 unfoldable pub total : (ℕ → ℕ) → ℕ → ℕ
 total f zero = 0
@@ -69,28 +67,28 @@ first_passing t (suc n) = elim (first_passing t n) [
   ])
 
 -- a map with some key isn't empty
-some_len : {X : Type 0} (m : map.FinMap nat_cmp X) (k : ℕ) → is_some (map.get m k) ≡ true → 1 ≤ map.len m
-some_len m k some = elim (cases_eq (map.len m) 0) [
-  | inl none ↦ absurd (false≢true (sym (ap is_some (map.get-empty nat_cmp k)) ∙ ap (λ (x : _). is_some (map.get x k)) (sym (map.empty_of_len m none)) ∙ some))
+some_len : {X : Type 0} (m : map_FinMap nat_cmp X) (k : ℕ) → is_some (map_get m k) ≡ true → 1 ≤ map_len m
+some_len m k some = elim (cases_eq (map_len m) 0) [
+  | inl none ↦ absurd (false≢true (sym (ap is_some (map_get-empty nat_cmp k)) ∙ ap (λ (x : _). is_some (map_get x k)) (sym (map_empty_of_len m none)) ∙ some))
   | inr many ↦ omega arith
 ]
 
 -- so many different keys of a map are at most as many as it has
-pub into_map : {X : Type 0} (m : map.FinMap nat_cmp X) (f : ℕ → ℕ) (t : ℕ → Bool) (n : ℕ) →
-    ((i : ℕ) → i < n → t i ≡ true → is_some (map.get m (f i)) ≡ true) →
+pub into_map : {X : Type 0} (m : map_FinMap nat_cmp X) (f : ℕ → ℕ) (t : ℕ → Bool) (n : ℕ) →
+    ((i : ℕ) → i < n → t i ≡ true → is_some (map_get m (f i)) ≡ true) →
     ((i j : ℕ) → i < n → j < n → t i ≡ true → t j ≡ true → f i ≡ f j → i ≡ j) →
-    total (λ i. cond (t i) 1 0) n ≤ map.len m
+    total (λ i. cond (t i) 1 0) n ≤ map_len m
 unfolding total
 into_map m f t zero has one = omega arith
-into_map m f t (suc n) has one = elim (t n) as (λ b. t n ≡ b → cond b 1 0 + total (λ i. cond (t i) 1 0) n ≤ map.len m) [
+into_map m f t (suc n) has one = elim (t n) as (λ b. t n ≡ b → cond b 1 0 + total (λ i. cond (t i) 1 0) n ≤ map_len m) [
   | true ↦ λ is.
       let here = has n (omega arith) is in
-      let less : map.len (map.remove m (f n)) ≡ map.len m - 1 = map.len-remove nat_cmp_total m (f n) ∙ ap (λ b. cond b (map.len m - 1) (map.len m)) here in
+      let less : map_len (map_remove m (f n)) ≡ map_len m - 1 = map_len-remove nat_cmp_total m (f n) ∙ ap (λ b. cond b (map_len m - 1) (map_len m)) here in
       let some = some_len m (f n) here in
-      let rest = into_map (map.remove m (f n)) f t n
+      let rest = into_map (map_remove m (f n)) f t n
       (λ i lt passes.
       let other : f i ≢ f n = λ same. let e = one i n (omega arith) (omega arith) passes is same in omega arith in
-      ap is_some (map.get-remove nat_cmp_total m (f n) (f i) ∙ ap (λ b. cond b None (map.get m (f i))) (unsigned_tied (f i) (f n) ∙ ne_eqb (f i) (f n) other)) ∙ has i (omega arith) passes)
+      ap is_some (map_get-remove nat_cmp_total m (f n) (f i) ∙ ap (λ b. cond b None (map_get m (f i))) (unsigned_tied (f i) (f n) ∙ ne_eqb (f i) (f n) other)) ∙ has i (omega arith) passes)
       (λ i j at_i at_j. one i j (omega arith) (omega arith)) in
       omega arith
   | false ↦ λ is. let rest = into_map m f t n (λ i lt. has i (omega arith)) (λ i j at_i at_j. one i j (omega arith) (omega arith)) in omega arith

@@ -1,8 +1,7 @@
 -- What each change of a slot ends.
 
 -- a slot keeps all
-use Rattle.std.proofs.Common.{Bool, List, Some, ap, cond, false, find, inl, inr, length, refl, set, true, ℕ, ⊎_elim, ◌-◌, ◌<◌, ◌∙◌, ◌≡◌, ◌≢◌, ◌⊎◌}
-use Rattle.key_slots.proofs.Common.{EndsOnly, IsEmptyAt, IsEmptyOrIdle, IsLastOf, IsLawful, IsNext, KeepsSlot, NoneEmpty, Slot, Table, cases_eq, destroyed_slot, empty_slot, find_passes, full_within, holds_key, is_idle, is_last, key_is_full, left, slot_at, slot_at-set_other, slot_at-set_same}
+use Rattle.key_slots.proofs.Common.{ap, Bool, cases_eq, cond, destroyed_slot, empty_slot, EndsOnly, false, find, find_passes, full_within, holds_key, inl, inr, is_idle, is_last, IsEmptyAt, IsEmptyOrIdle, IsLastOf, IsLawful, IsNext, KeepsSlot, key_is_full, left, length, List, NoneEmpty, refl, set, Slot, slot_at, slot_at-set_other, slot_at-set_same, Some, Table, true, ℕ, ⊎_elim, ◌-◌, ◌<◌, ◌∙◌, ◌≡◌, ◌≢◌, ◌⊎◌}
 
 pub keeps_all : (s : Slot) → KeepsSlot s s
 keeps_all s = record { state = refl; creation = refl; attributes = refl; buffer = refl }

@@ -149,28 +149,28 @@ impl KeySlots {
         self.table.is_alive(lease)
     }
 
-    /// Forgets a key that was destroyed. Where it is read, its slot waits for its last reader.
-    pub fn destroy(&mut self, id: KeyId)
+    /// Forgets a key that was destroyed, whose slot this is, if it has one. Where it is read, the slot waits for its last reader.
+    pub fn destroy(&mut self, id: KeyId, slot: Option<u32>)
+        requires { MatchOption slot (NoKey id.0 self.old.table.slots) (λ i. holds_key id.0 (slot_at self.old.table.slots i) ≡ true) }
         ensures forgets { (old new : Store) (all : List Pairs) → Agrees self.old.table.slots old all → IsSoundStore old → Puts old new id.0 None → Agrees self.new.table.slots new all }
         ensures wipes { EndsOnly self.old.table.slots self.new.table.slots (λ i s. holds_key id.0 s ≡ true) }
         ensures ended { (i : ℕ) → holds_key id.0 (slot_at self.old.table.slots i) ≡ true → slot_at self.new.table.slots i ≡ destroyed_slot (slot_at self.old.table.slots i) }
     {
-        if let Some(slot) = self.table.find(id) {
+        if let Some(slot) = slot {
             self.table.mark(slot);
         }
     }
 
-    /// Forgets a key that is in a file too and that nobody reads.
-    pub fn purge(&mut self, id: KeyId)
+    /// Forgets the key of a slot, if it is in a file too and nobody reads it.
+    pub fn purge(&mut self, id: KeyId, slot: u32)
+        requires { holds_key id.0 (slot_at self.old.table.slots slot) ≡ true }
         ensures stays { (store : Store) (all : List Pairs) → Agrees self.old.table.slots store all → Agrees self.new.table.slots store all }
         ensures wiped { (i : ℕ) → holds_key id.0 (slot_at self.new.table.slots i) ≡ true → is_idle (slot_at self.new.table.slots i) ≡ false }
         ensures others { (i : ℕ) → holds_key id.0 (slot_at self.old.table.slots i) ≡ false → slot_at self.new.table.slots i ≡ slot_at self.old.table.slots i }
         ensures wipes { EndsOnly self.old.table.slots self.new.table.slots (λ i s. IsIdleOf id.0 s) }
         ensures emptied { (i : ℕ) → IsIdleOf id.0 (slot_at self.old.table.slots i) → slot_at self.new.table.slots i ≡ empty_slot }
     {
-        if let Some(slot) = self.table.find(id) {
-            self.table.purge(slot);
-        }
+        self.table.purge(slot);
     }
 
     /// Whether a slot can be taken.

@@ -1,6 +1,5 @@
 -- How often a number stands in a row.
 use Rattle.slot_table.proofs.Common.{List, [], add_assoc, ap, arith, cases_eq, cond, eqb, false, get_or, length, nat_tests, not, recency_without, refl, suc, sym, times, true, zero, zero-add, ℕ, ⊎_elim, ◌++◌, ◌+◌, ◌<◌, ◌∙◌, ◌∷◌, ◌≡◌, ◌≢◌, ◌≤◌}
-use Rattle.std.specs.List.{remove}
 
 pub times-append : (i : ℕ) (xs ys : List ℕ) → times i (xs ++ ys) ≡ times i xs + times i ys
 times-append i [] ys = sym (zero-add (times i ys))
@@ -43,21 +42,6 @@ times-at i (x ∷ xs) zero within is = grind (arith, nat_tests)
 times-at i (x ∷ xs) (suc place) within is =
     let h : 1 ≤ times i xs = times-at i xs place (omega arith) is in
     omega arith
-
--- a row loses a number that stands in it once by losing one place
-pub without_place : (i : ℕ) (xs : List ℕ) (place : ℕ) → place < length xs → get_or xs place 0 ≡ i → times i xs ≡ 1 → remove xs place ≡ recency_without i xs
-without_place i [] place within is once = absurd (omega arith)
-without_place i (x ∷ xs) zero within is once =
-    elim (eqb x i) as (λ b. eqb x i ≡ b → cond b 1 0 + times i xs ≡ 1 → xs ≡ cond (not b) (x ∷ recency_without i xs) (recency_without i xs)) [
-      | true ↦ λ t h. sym (without_none i xs (omega arith))
-      | false ↦ λ t h. absurd (grind (arith, nat_tests))
-    ] refl once
-without_place i (x ∷ xs) (suc place) within is once =
-    let more : 1 ≤ times i xs = times-at i xs place (omega arith) is in
-    elim (eqb x i) as (λ b. cond b 1 0 + times i xs ≡ 1 → x ∷ remove xs place ≡ cond (not b) (x ∷ recency_without i xs) (recency_without i xs)) [
-      | true ↦ λ h. absurd (omega arith)
-      | false ↦ λ h. ap (λ zs. x ∷ zs) (without_place i xs place (omega arith) is (omega arith))
-    ] once
 
 -- a row of numbers below a bound, each at most once, isn't longer than the bound
 pub length_distinct : (n : ℕ) (xs : List ℕ) → ((i : ℕ) → times i xs ≤ 1) → ((i : ℕ) → n ≤ i → times i xs ≡ 0) → length xs ≤ n

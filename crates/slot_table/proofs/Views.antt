@@ -1,6 +1,5 @@
 -- Two rows as the slots of a table.
-use Rattle.slot_table.proofs.Common.{AreRows, Head, List, Slot, [], ap, arith, empty_head, empty_slot, get_or, head_at, head_holds_key, holds_key, is_full, length, length-replicate, no_key, refl, replicate, set, set-get_or, slot_at, slot_of, slots_of, stored_at, suc, sym, zero, ℕ, ◌&&◌, ◌<◌, ◌==◌, ◌∙◌, ◌∷◌, ◌≡◌}
-use Rattle.key_attributes.specs.declared.KeyId.{KeyId}
+use Rattle.slot_table.proofs.Common.{AreRows, Head, List, Slot, [], ap, arith, empty_head, empty_slot, get_or, head_at, length, length-replicate, no_key, refl, replicate, set, set-get_or, slot_at, slot_of, slots_of, stored_at, suc, sym, zero, ℕ, ◌<◌, ◌∙◌, ◌∷◌, ◌≡◌}
 use Rattle.slot_table.specs.declared.place.Stored.{Stored}
 
 length-slots_of : (heads : List Head) (keys : List Stored) → length heads ≡ length keys → length (slots_of heads keys) ≡ length heads
@@ -33,11 +32,6 @@ slot_is heads keys slots rows view i =
 pub length_is : (heads : List Head) (keys : List Stored) (slots : List Slot) → {first : ℕ} → AreRows heads keys first → slots_of heads keys ≡ slots → length slots ≡ 384
 length_is heads keys slots rows view =
     sym (ap length view) ∙ length-slots_of heads keys (omega (arith, rows.heads_sized, rows.keys_sized)) ∙ rows.heads_sized
-
--- a head tells whether its slot has a key
-pub holds_key-head : (heads : List Head) (keys : List Stored) (slots : List Slot) → {first : ℕ} → AreRows heads keys first → slots_of heads keys ≡ slots → (id i : ℕ) → holds_key id (slot_at slots i) ≡ head_holds_key id (head_at heads i)
-holds_key-head heads keys slots rows view id i =
-    ap (holds_key id) (slot_is heads keys slots rows view i) ∙ ap (λ (k : KeyId). is_full (head_at heads i).state && (k.0 == id)) (sym (rows.named i))
 
 pub record StandsAt (heads : List Head) (keys : List Stored) (slots : List Slot) (i : ℕ) : Type 0 where
   pub head : i < length heads
@@ -77,6 +71,5 @@ pub AreRows-replicate : AreRows (replicate 384 empty_head) (replicate 384 no_key
 AreRows-replicate = record {
   heads_sized = length-replicate 384 empty_head;
   keys_sized = length-replicate 384 no_key;
-  named = λ i. rw (get_or-replicate_same 384 i empty_head, get_or-replicate_same 384 i no_key) refl;
   none_before = λ i lt. absurd (omega (arith, lt));
 }

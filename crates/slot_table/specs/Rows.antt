@@ -1,13 +1,13 @@
 -- The two rows in which a table keeps its slots.
-use Rattle.std.specs.Prelude.{◌≡◌, ℕ, ◌<◌, ◌==◌, Bool, false, ◌&&◌, List, [], ◌∷◌, length, replicate, slice_index_or}
+use Rattle.std.specs.Prelude.{◌≡◌, ℕ, ◌<◌, false, List, [], ◌∷◌, length, replicate, slice_index_or}
 use Rattle.slot_states.specs.declared.SlotState.TheVariants.{Empty}
 use Rattle.secret_bytes.specs.Buffer.{buffer_of}
 use Rattle.slot_table.specs.declared.place.Head.{Head}
 use Rattle.slot_table.specs.declared.place.Stored.{Stored}
-use Rattle.slot_table.specs.Slots.{Slot, no_attributes, is_empty_state, is_full}
+use Rattle.slot_table.specs.Slots.{Slot, no_attributes, is_empty_state}
 
 abbrev pub empty_head : Head
-empty_head = record { state = Empty; id = record { 0 = 0 } }
+empty_head = record { state = Empty }
 
 abbrev pub no_key : Stored
 no_key = record { readers = 0; creation = 0; attributes = no_attributes; buffer = buffer_of []; apart = replicate 9 0 }
@@ -22,10 +22,6 @@ stored_at keys i = slice_index_or keys i no_key
 abbrev pub NoneBefore : List Head → ℕ → Type 0
 NoneBefore heads first = (i : ℕ) → i < first → is_empty_state (head_at heads i).state ≡ false
 
--- whether a head is that of a slot with the key of this identifier, which can be used
-abbrev pub head_holds_key : ℕ → Head → Bool
-head_holds_key id head = is_full head.state && (head.id.0 == id)
-
 abbrev pub slot_of : Head → Stored → Slot
 slot_of head key = record { state = head.state; readers = key.readers; creation = key.creation; attributes = key.attributes; buffer = key.buffer }
 
@@ -33,9 +29,8 @@ abbrev pub slots_of : List Head → List Stored → List Slot
 slots_of (head ∷ heads) (key ∷ keys) = slot_of head key ∷ slots_of heads keys
 slots_of _ _ = []
 
--- there are 384 of each, a head has its key's identifier, and none before a place is empty
+-- there are 384 of each, and none before a place is empty
 pub record AreRows (heads : List Head) (keys : List Stored) (first : ℕ) : Type 0 where
   pub heads_sized : length heads ≡ 384
   pub keys_sized : length keys ≡ 384
-  pub named : (i : ℕ) → (head_at heads i).id ≡ (stored_at keys i).attributes.id
   pub none_before : NoneBefore heads first

@@ -1,10 +1,10 @@
-//! One slot, in two parts: what a look for a key reads, and the key with its readers.
+//! One slot, in two parts: its state, and the key with its readers.
 ghost use Rattle.std.specs.Prelude.{◌≡◌, ◌<◌, ◌≤◌, ◌-◌, ◌+◌, ◌^◌, length, true, IfOk};
 ghost use Rattle.secret_bytes.specs.Buffer.{buffer_of};
 ghost use Rattle.slot_states.specs.Changes.{may_change};
 ghost use Rattle.slot_states.specs.declared.SlotState.TheVariants.{Empty};
 ghost use Rattle.slot_table.specs.Slots.{is_empty_state, is_full, is_pending, is_idle, is_last};
-ghost use Rattle.slot_table.specs.Rows.{empty_head, no_key, head_holds_key, slot_of};
+ghost use Rattle.slot_table.specs.Rows.{empty_head, no_key, slot_of};
 
 use key_attributes::{Attributes, KeyId, KeyType, Lifetime, Policy, Usage};
 use psa_status::Memory;
@@ -23,11 +23,10 @@ const NO_ATTRIBUTES: Attributes = Attributes {
     },
 };
 
-/// What a look for a key reads of a slot.
+/// The state of a slot, apart from its key.
 #[derive(Clone, Copy, Drop)]
 pub struct Head {
     pub state: SlotState,
-    pub id: KeyId,
 }
 
 impl Head {
@@ -37,7 +36,6 @@ impl Head {
     {
         Head {
             state: SlotState::Empty,
-            id: KeyId(0),
         }
     }
 
@@ -53,13 +51,6 @@ impl Head {
         ensures { result ≡ is_full self.now.state }
     {
         matches!(self.state, SlotState::Full)
-    }
-
-    /// Whether the slot has the key of this identifier, which can be used.
-    pub fn is_key(&self, id: KeyId) -> bool
-        ensures { result ≡ head_holds_key id.0 self.now }
-    {
-        self.is_full() && self.id.0 == id.0
     }
 
     /// Whether the slot's key is destroyed and still read.

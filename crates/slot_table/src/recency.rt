@@ -1,27 +1,42 @@
 //! The order in which the full slots of a table were used.
-ghost use Rattle.std.specs.Prelude.{◌≡◌, ◌<◌, ◌≤◌, [], ◌∷◌, ◌++◌, length, slice_index_or, IfOk, MatchOption, vec_capacity};
-ghost use Rattle.slot_table.specs.Slots.{times};
+ghost use Rattle.std.specs.Prelude.{◌≡◌, ◌<◌, ◌≤◌, [], ◌∷◌, ◌++◌, length, find, IfOk};
+ghost use Rattle.slot_table.specs.Slots.{times, slot_at, is_idle};
 ghost use Rattle.slot_table.specs.Changes.{recency_without};
+ghost use Rattle.slot_table.specs.Links.{links_joined};
 
-use crate::rows::SLOTS;
+use crate::rows::{SLOTS, SlotRows};
 use psa_status::Memory;
 use std::alloc::Global;
 use std::marker::Model;
 
-/// The numbers of the full slots, the least recently registered or filled first.
+// The number of the link of both ends, which comes after those of the slots.
+const ENDS: u32 = 384;
+
+const LINKS: usize = SLOTS + 1;
+
+/// The numbers of the next older slot and of the next newer one.
+#[derive(Clone, Copy, Drop)]
+pub struct Link {
+    pub older: u32,
+    pub newer: u32,
+}
+
+/// The numbers of the full slots, the least recently registered or filled first: each is linked to its neighbours, and the
+/// oldest and the newest to the ends.
 #[derive(Drop)]
 pub struct Recency {
-    row: Vec<u32>,
+    links: Box<[Link; LINKS]>,
 }
 
 impl Model for Recency {
-    ghost use Rattle.std.specs.Prelude.{ℕ, ◌≤◌, List, length, vec_capacity};
+    ghost use Rattle.std.specs.Prelude.{ℕ, List};
+    ghost use Rattle.slot_table.specs.Links.{AreLinksOf, linked_slots};
 
     ghost Value = { List ℕ };
 
-    ghost view = { λ r. r.row.items };
+    ghost view = { λ r. linked_slots r.links.value };
 
-    ghost invariant = { λ r. (length r.row.items ≤ 384) × (384 ≤ vec_capacity r.row) };
+    ghost invariant = { λ r. AreLinksOf (linked_slots r.links.value) r.links.value };
 }
 
 impl Recency {
@@ -29,37 +44,37 @@ impl Recency {
     pub fn new(alloc: Global) -> Result<Recency, Memory>
         ensures { IfOk result (λ recency. recency ≡ []) }
     {
-        match Vec::with_capacity(alloc, SLOTS) {
-            Ok(row) => Ok(Recency { row }),
+        let ends = Link {
+            older: ENDS,
+            newer: ENDS,
+        };
+        match Box::new(alloc, [ends; LINKS]) {
+            Ok(links) => Ok(Recency { links }),
             Err(_) => Err(Memory),
         }
     }
 
-    /// The numbers in their order.
-    pub fn as_slice(&self) -> &[u32]
-        ensures { result.now ≡ self.now }
-    {
-        self.row.as_slice()
-    }
-
     /// Puts a slot at the end.
     pub fn push(&mut self, slot: u32)
-        requires { length self.old < 384 }
+        requires within { slot < 384 }
+        requires room { length self.old < 384 }
+        requires new { times slot self.old ≡ 0 }
         ensures { self.new ≡ self.old ++ slot ∷ [] }
     {
-        self.row.push_reserved(slot);
+        let newest = self.links[SLOTS].older;
+        join(&mut self.links, newest, slot);
+        join(&mut self.links, slot, ENDS);
     }
 
     /// Takes out a slot that stands in the row once.
-    #[tactic(auto, using(crate::proofs::Times::without_place))]
     pub fn forget(&mut self, slot: u32)
         requires { times slot self.old ≡ 1 }
         ensures row { self.new ≡ recency_without slot self.old }
         ensures room { length self.new < 384 }
+        ensures within { slot < 384 }
     {
-        if let Some(place) = last_place(&self.row, slot) {
-            self.row.remove(place);
-        }
+        let Link { older, newer } = self.links[slot as usize];
+        join(&mut self.links, older, newer);
     }
 
     /// Moves a slot that stands in the row once to its end.
@@ -70,16 +85,31 @@ impl Recency {
         self.forget(slot);
         self.push(slot);
     }
+
+    /// The least recently used slot that has a persistent key which nobody reads.
+    pub fn oldest_idle(&self, rows: &SlotRows) -> Option<u32>
+        ensures { result ≡ find (λ i. is_idle (slot_at rows.now i)) self.now }
+    {
+        let mut slot = self.links[SLOTS].newer;
+        for _ in 0..SLOTS {
+            if slot == ENDS {
+                return None;
+            }
+            if rows.is_idle(slot) {
+                return Some(slot);
+            }
+            slot = self.links[slot as usize].newer;
+        }
+        None
+    }
 }
 
-// The last place of a number, which is the first that a look from the end on comes to.
-fn last_place(row: &[u32], slot: u32) -> Option<usize>
-    ensures { MatchOption result (times slot row.now ≡ 0) (λ place. (place < length row.now) × (slice_index_or row.now place 0 ≡ slot)) }
+// Makes two slots neighbours.
+fn join(links: &mut [Link; LINKS], older: u32, newer: u32)
+    requires older { older ≤ 384 }
+    requires newer { newer ≤ 384 }
+    ensures { links.new ≡ links_joined links.old older newer }
 {
-    for place in (0..row.len()).rev() {
-        if row[place] == slot {
-            return Some(place);
-        }
-    }
-    None
+    links[older as usize].newer = newer;
+    links[newer as usize].older = older;
 }

@@ -1,13 +1,13 @@
-//! The slots of a table, in two rows: what a look for a key reads, and the keys with their readers.
+//! The slots of a table, in two rows: their states, and the keys with their readers.
 ghost use Rattle.std.specs.Prelude.{◌≡◌, ◌<◌, ◌≤◌, ◌-◌, ◌+◌, ◌^◌, length, slice_set, replicate, true, IfOk, IfSome, MatchOption};
 ghost use Rattle.slot_states.specs.Changes.{may_change};
 ghost use Rattle.slot_states.specs.declared.SlotState.TheVariants.{Empty, Full};
-ghost use Rattle.slot_table.specs.Slots.{empty_slot, slot_at, holds_key, is_idle, is_last, NoKey, NoneEmpty, IsEmptyAt, IsNoneEmptyBefore};
+ghost use Rattle.slot_table.specs.Slots.{empty_slot, slot_at, is_idle, is_last, NoneEmpty, IsEmptyAt, IsNoneEmptyBefore};
 ghost use Rattle.slot_table.specs.Changes.{full_slot, registered};
 ghost use Rattle.slot_table.specs.Rows.{no_key};
 
 use crate::place::{Head, Stored, is_idle, is_last};
-use key_attributes::{Attributes, KeyId};
+use key_attributes::Attributes;
 use psa_status::Memory;
 use slot_states::SlotState;
 use std::alloc::Global;
@@ -53,18 +53,6 @@ impl SlotRows {
         })
     }
 
-    /// The slot that has the key of this identifier.
-    pub fn find(&self, id: KeyId) -> Option<u32>
-        ensures { MatchOption result (NoKey id.0 self.now) (λ i. holds_key id.0 (slot_at self.now i) ≡ true) }
-    {
-        for i in 0..self.heads.len() {
-            if self.heads[i].is_key(id) {
-                return Some(i as u32);
-            }
-        }
-        None
-    }
-
     /// The first empty slot.
     pub fn find_empty(&self) -> Option<u32>
         ensures found { MatchOption result (NoneEmpty self.now) (λ i. IsEmptyAt self.now i) }
@@ -105,7 +93,7 @@ impl SlotRows {
         is_last(&self.heads[slot as usize], &self.keys[slot as usize])
     }
 
-    /// What a look for a key reads of a slot.
+    /// The state of a slot.
     pub fn head(&self, slot: u32) -> Head
         requires { slot < length self.now }
         ensures { result.state ≡ (slot_at self.now slot).state }
@@ -146,7 +134,6 @@ impl SlotRows {
         let key = &mut self.keys[slot as usize];
         let head = &mut self.heads[slot as usize];
         head.change(SlotState::Full, key.readers);
-        head.id = attributes.id;
         key.fill(creation, attributes, bytes);
         self.first = self.first.min(slot as usize);
     }

@@ -4,34 +4,40 @@ ghost use Rattle.std.specs.Bool.{OnTrue, OnFalse};
 ghost use Rattle.secret_bytes.specs.Buffer.{IsClear, bytes_of};
 ghost use Rattle.slot_states.specs.declared.SlotState.TheVariants.{Full};
 ghost use Rattle.slot_table.specs.Slots.{empty_slot, filling_slot, slot_at, is_full, holds_key, is_idle, NoKey, NoneEmpty, IsEmptyAt, CanReserve, IsNext, IsLawful};
+ghost use Rattle.slot_table.specs.Index.{AreHalvings};
 ghost use Rattle.slot_table.specs.Changes.{full_slot, registered, left, destroyed_slot, recency_without};
 
+use crate::index::KeyIndex;
 use crate::lent::{Filling, Lease};
 use crate::recency::Recency;
 pub use crate::rows::SLOTS;
 use crate::rows::SlotRows;
+use crate::steps::Steps;
 use key_attributes::{Attributes, KeyId};
 use psa_status::Memory;
 use secret_bytes::Secret;
 use slot_states::SlotState;
 use std::alloc::Global;
-use std::marker::Model;
+use std::marker::{Brand, Model};
+use std::sync::ledger::{Blank, Ledger};
 
 /// The slots of the key store, by number, with the order in which the full ones were registered or filled.
 #[derive(Drop)]
 pub struct SlotTable {
     rows: SlotRows,
     recency: Recency,
+    index: KeyIndex,
 }
 
 impl Model for SlotTable {
-    ghost use Rattle.slot_table.specs.Slots.{Table, IsLawful};
+    ghost use Rattle.slot_table.specs.Slots.{Table};
+    ghost use Rattle.slot_table.specs.Index.{IsIndexed};
 
     ghost Value = { Table };
 
     ghost view = { λ t. record { slots = t.rows; recency = t.recency } };
 
-    ghost invariant = { λ t. IsLawful (record { slots = t.rows; recency = t.recency }) };
+    ghost invariant = { λ t. IsIndexed (record { slots = t.rows; recency = t.recency }) t.index };
 }
 
 impl SlotTable {
@@ -42,7 +48,12 @@ impl SlotTable {
     {
         let rows = SlotRows::new(alloc)?;
         let recency = Recency::new(alloc)?;
-        Ok(SlotTable { rows, recency })
+        let index = KeyIndex::new(alloc)?;
+        Ok(SlotTable {
+            rows,
+            recency,
+            index,
+        })
     }
 
     /// The slot that has the key of this identifier, if there is one.
@@ -50,7 +61,16 @@ impl SlotTable {
         ensures found { MatchOption result (NoKey id.0 self.now.slots) (λ i. holds_key id.0 (slot_at self.now.slots i) ≡ true) }
         ensures lawful { IsLawful self.now }
     {
-        self.rows.find(id)
+        self.find_in::<Brand>(id, Blank::new(1))
+    }
+
+    /// The same, with each comparison of a full slot's identifier as a step. They are as few as a search by halves takes.
+    pub fn find_counted<L: Ledger>(&self, id: KeyId, steps: &mut Steps<L>) -> Option<u32>
+        ensures found { MatchOption result (NoKey id.0 self.now.slots) (λ i. holds_key id.0 (slot_at self.now.slots i) ≡ true) }
+        ensures steps { AreHalvings (length self.now.recency) steps.old steps.new }
+        ensures lawful { IsLawful self.now }
+    {
+        self.index.find(id.0, steps)
     }
 
     /// The creation number of the key of a full slot.
@@ -123,6 +143,7 @@ impl SlotTable {
         let Filling { slot } = filling;
         self.rows.fill(slot, creation, attributes, bytes);
         self.recency.push(slot);
+        self.index.insert(attributes.id.0, slot);
         slot
     }
 
@@ -217,12 +238,23 @@ impl SlotTable {
         self.rows.head(lease.slot).is_full()
     }
 
+    // Looks for a key, with the steps in a ledger of their own.
+    fn find_in<L: Ledger>(&self, id: KeyId, blank: Blank) -> Option<u32>
+        requires name { blank.name ≡ L.name }
+        requires parts { blank.parts ≡ L.parts }
+        requires some { 0 < blank.parts }
+        ensures found { MatchOption result (NoKey id.0 self.now.slots) (λ i. holds_key id.0 (slot_at self.now.slots i) ≡ true) }
+        ensures lawful { IsLawful self.now }
+    {
+        self.find_counted(id, &mut Steps::<L>::new(blank))
+    }
+
     // The least recently used slot that has a persistent key which nobody reads.
     fn oldest_idle(&self) -> Option<u32>
         ensures first { result ≡ find (λ i. is_idle (slot_at self.now.slots i)) self.now.recency }
         ensures lawful { IsLawful self.now }
     {
-        first_idle(&self.rows, self.recency.as_slice())
+        self.recency.oldest_idle(&self.rows)
     }
 
     // Makes an empty slot wait for its key.
@@ -259,6 +291,8 @@ impl SlotTable {
         ensures recency { self.new.recency ≡ recency_without slot self.old.recency }
         ensures lawful { IsLawful self.new }
     {
+        let id = self.rows.key(slot).attributes.id.0;
+        self.index.remove(id, slot);
         self.recency.forget(slot);
         self.rows.wipe(slot);
     }
@@ -271,6 +305,8 @@ impl SlotTable {
         ensures recency { self.new.recency ≡ recency_without slot self.old.recency }
         ensures lawful { IsLawful self.new }
     {
+        let id = self.rows.key(slot).attributes.id.0;
+        self.index.remove(id, slot);
         self.recency.forget(slot);
         self.rows.change(slot, SlotState::Pending);
     }
@@ -288,11 +324,4 @@ impl SlotTable {
             self.rows.unregister(slot);
         }
     }
-}
-
-// The first of some slots that has a persistent key which nobody reads.
-fn first_idle(rows: &SlotRows, slots: &[u32]) -> Option<u32>
-    ensures { result ≡ find (λ i. is_idle (slot_at rows.now i)) slots.now }
-{
-    slots.iter().copied().find(|slot| rows.is_idle(*slot))
 }

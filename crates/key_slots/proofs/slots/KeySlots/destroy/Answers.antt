@@ -1,5 +1,4 @@
-use Rattle.std.proofs.Common.{inr, true, ◌≡◌}
-use Rattle.key_slots.proofs.Common.{full_within, holds_key, key_is_full, slot_at}
+use Rattle.key_slots.proofs.Common.{full_within, holds_key, inr, key_is_full, slot_at, true, ◌≡◌}
 use Rattle.key_slots.proofs.Agreeing.{destroys}
 use Rattle.key_slots.proofs.Wiping.{destroy_leaves, ends_one}
 use Rattle.key_slots.proofs.slots.KeySlots.destroy.Goals as goal
@@ -8,7 +7,7 @@ pub returns-in-Some : goal.returns-in-Some
 returns-in-Some c =
     let t = c.args.self.now.table in
     let i = c.in-Some.slot in
-    let has = c.in-Some.ensures.found in
+    let has = rw c.in-Some.is at c.requires in
     record {
       forgets = λ old new all a sound puts. rw c.mark.ensures.slots (destroys t old new all c.args.id.0 i c.args.self.now.lawful sound has puts a);
       wipes = rw c.mark.ensures.slots (ends_one t.slots i _ (λ k s. holds_key c.args.id.0 s ≡ true) (inr has) (full_within t.slots i (key_is_full c.args.id.0 (slot_at t.slots i) has)));

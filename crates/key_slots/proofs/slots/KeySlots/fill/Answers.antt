@@ -1,5 +1,4 @@
-use Rattle.std.proofs.Common.{inr, refl}
-use Rattle.key_slots.proofs.Common.{IsFillingOf, filling_within}
+use Rattle.key_slots.proofs.Common.{filling_within, inr, IsFillingOf, refl}
 use Rattle.key_slots.proofs.Agreeing.{fills, is_waiting}
 use Rattle.key_slots.proofs.Wiping.{ends_one}
 use Rattle.key_slots.proofs.slots.KeySlots.fill.Goals as goal

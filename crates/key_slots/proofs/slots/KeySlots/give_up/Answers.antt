@@ -1,5 +1,4 @@
-use Rattle.std.proofs.Common.{inr, refl}
-use Rattle.key_slots.proofs.Common.{IsFillingOf, empty_slot, filling_within, slot_at-set_same}
+use Rattle.key_slots.proofs.Common.{empty_slot, filling_within, inr, IsFillingOf, refl, slot_at-set_same}
 use Rattle.key_slots.proofs.Agreeing.{gives_up, is_waiting}
 use Rattle.key_slots.proofs.Wiping.{ends_one}
 use Rattle.key_slots.proofs.slots.KeySlots.give_up.Goals as goal

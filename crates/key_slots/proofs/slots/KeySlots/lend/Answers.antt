@@ -1,5 +1,4 @@
-use Rattle.std.proofs.Common.{ap, inl, refl}
-use Rattle.key_slots.proofs.Common.{full_within}
+use Rattle.key_slots.proofs.Common.{ap, full_within, inl, refl}
 use Rattle.slot_table.specs.Lent.{Reading}
 use Rattle.key_slots.proofs.Agreeing.{registers}
 use Rattle.key_slots.proofs.Wiping.{ends_one}

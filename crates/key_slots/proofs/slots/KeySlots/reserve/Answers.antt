@@ -1,5 +1,4 @@
-use Rattle.std.proofs.Common.{inr, refl}
-use Rattle.key_slots.proofs.Common.{IsTakenOf, filling_slot, next_within}
+use Rattle.key_slots.proofs.Common.{filling_slot, inr, IsTakenOf, next_within, refl}
 use Rattle.key_slots.proofs.Agreeing.{reserves}
 use Rattle.key_slots.proofs.Wiping.{ends_one, next_taken}
 use Rattle.key_slots.proofs.slots.KeySlots.reserve.Goals as goal

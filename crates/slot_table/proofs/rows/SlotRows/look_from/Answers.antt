@@ -7,6 +7,5 @@ invariant_of-self c =
     let rows = c.self.invariant in record {
       heads_sized = rows.heads_sized;
       keys_sized = rows.keys_sized;
-      named = rows.named;
       none_before = λ k lt. ap (λ (s : Slot). is_empty_state s.state) (sym (slot_is _ _ _ rows c.self.view_is k)) ∙ c.requires k lt;
     }

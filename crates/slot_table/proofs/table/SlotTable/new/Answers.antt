@@ -1,9 +1,9 @@
 use Rattle.slot_table.proofs.Common.{refl}
-use Rattle.slot_table.proofs.Laws.{lawful_start}
+use Rattle.slot_table.proofs.Tables.{table_starts}
 use Rattle.slot_table.proofs.table.SlotTable.new.Goals as goal
 
 pub invariant_of-result : goal.invariant_of-result
-invariant_of-result c = rw (c.in_ok-rows.ensures, c.in_ok-recency.ensures) (lawful_start 384 refl)
+invariant_of-result c = rw (c.in_ok-rows.ensures, c.in_ok-recency.ensures, c.in_ok-index.ensures) (table_starts 384 refl)
 
 pub returns-clause-lawful : goal.returns-clause-lawful
-returns-clause-lawful c = invariant_of-result c
+returns-clause-lawful c = (invariant_of-result c).law

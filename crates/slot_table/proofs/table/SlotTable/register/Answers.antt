@@ -1,13 +1,20 @@
-use Rattle.slot_table.proofs.Common.{Full, Table, ap, refl, slot_at, ◌≡◌}
+use Rattle.slot_table.proofs.Common.{Full, Table, [], ap, arith, cond, is_full, length-append, recency_without, refl, slot_at, times, ◌∙◌, ◌∷◌, ◌≡◌}
+use Rattle.slot_table.proofs.Times.{length-without}
 use Rattle.slot_table.proofs.AtSlots.{full_within}
+use Rattle.slot_table.proofs.Indexed.{index_stays}
 use Rattle.slot_table.proofs.Laws.{becomes_last, lawful_full}
 use Rattle.slot_table.proofs.table.SlotTable.register.Goals as goal
 
 pub invariant_of-self : goal.invariant_of-self
 invariant_of-self c =
     let full : (slot_at c.self.inside.rows c.args.slot).state ≡ Full = rw (ap (λ (t : Table). t.slots) c.self.view_is) c.requires.full in
+    let once : times c.args.slot c.self.inside.recency ≡ 1 = c.self.invariant.law.recent c.args.slot ∙ ap (λ x. cond (is_full x) 1 0) full in
     rw (c.register.ensures, c.refresh.ensures)
-    (becomes_last _ _ _ c.self.invariant (full_within _ _ full) full full refl (lawful_full _ _ (c.self.invariant.each c.args.slot) refl full))
+    (record {
+      law = becomes_last _ _ _ c.self.invariant.law (full_within _ _ full) full full refl (lawful_full _ _ (c.self.invariant.law.each c.args.slot) refl full);
+      index = index_stays _ _ _ c.self.inside.index (full_within _ _ full) (λ id. refl) c.self.invariant.index;
+      sized = omega (arith, c.self.invariant.sized, once, length-without c.args.slot c.self.inside.recency, length-append (recency_without c.args.slot c.self.inside.recency) (c.args.slot ∷ []));
+    })
 
 pub returns-clause-lawful : goal.returns-clause-lawful
-returns-clause-lawful c = invariant_of-self c
+returns-clause-lawful c = (invariant_of-self c).law

@@ -6,7 +6,7 @@ use Rattle.slot_table.proofs.table.SlotTable.reserve.Goals as goal
 pub returns-in-Some-clause-recency : goal.returns-in-Some-clause-recency
 returns-in-Some-clause-recency c =
     let recency = ap (λ (t : Table). t.recency) c.self.view_is in
-    c.begin.ensures.recency ∙ empty_is_not_recent _ c.in-Some.slot c.self.invariant c.in-Some.ensures.found.1 ∙ ap (recency_without c.in-Some.slot) recency ∙ ap (λ i. recency_without i c.args.self.now.recency) (sym c.begin.ensures.slot)
+    c.begin.ensures.recency ∙ empty_is_not_recent _ c.in-Some.slot c.self.invariant.law c.in-Some.ensures.found.1 ∙ ap (recency_without c.in-Some.slot) recency ∙ ap (λ i. recency_without i c.args.self.now.recency) (sym c.begin.ensures.slot)
 
 pub begin-requires-2 : goal.begin-requires-2
 begin-requires-2 c =
