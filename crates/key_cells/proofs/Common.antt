@@ -13,7 +13,7 @@ pub use Rattle.key_cells.specs.Image.{HasNoOpenCell, IsDamaged, IsFirstDamaged, 
 unfoldable pub use Rattle.key_cells.specs.Image.{identifier_in}
 pub use Rattle.key_cells.specs.Layout.{body, cells, closed, gate, opened_gate, part, place}
 unfoldable pub use Rattle.key_cells.specs.Layout.{header, zeros}
-pub use Rattle.key_cells.specs.Opening.{Clearing, ClearsOn, content_of, Finds, found_in, GivesPart, HasOneEach, is_opened, IsBadCell, IsFoundIn, IsImageDirectory, IsNamed, IsNumbered, IsSettled, Reads, ReadsBelow, ReadsCell, ReadsKey, Spares, WithinSpares}
+pub use Rattle.key_cells.specs.Opening.{Clearing, ClearsOn, content_of, Finds, found_in, GivesBlock, GivesPart, HasOneEach, is_opened, IsBadCell, IsFoundIn, IsImageDirectory, IsNamed, IsNumbered, IsSettled, Reads, ReadsBelow, ReadsCell, ReadsKey, Spares, WithinSpares}
 unfoldable pub use Rattle.key_cells.specs.Opening.{contents_of}
 pub use Rattle.key_cells.specs.declared.reading.OpenFault.TheVariants.{DamagedCell, Disk, NotAStore}
 pub use Rattle.key_cells.specs.declared.reading.TheConstants.{HEADER}

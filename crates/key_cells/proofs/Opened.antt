@@ -77,9 +77,7 @@ module _ {D : Type 0} (disks : Disk.Ghosts D) where
     tells = ap is_some calm.same;
     later = calm.later;
     rose = rose;
-    same = λ is. calm.same;
-    unwritten = λ is. calm.crash;
-    unwritten_within = λ is. calm.within;
+    calm = λ is. calm;
     durable = durable;
     spares = for_told (disks.contents old) _ (λ image is store. spares_calm old new calm image);
     left = for_told (disks.contents old) _ (λ image is store. inl calm.crash);
@@ -117,9 +115,7 @@ module _ {D : Type 0} (disks : Disk.Ghosts D) where
     tells = r.tells ∙ ap is_some calm.same;
     later = omega (arith, calm.later, r.later);
     rose = λ is. omega (arith, calm.later, r.rose is);
-    same = λ is. r.same is ∙ calm.same;
-    unwritten = λ is other left. calm.crash other (r.unwritten is other left);
-    unwritten_within = λ is. within_both (disks.moment a) (disks.moment b) (disks.moment c) (disks.left_since a) (disks.left_since b) (disks.left_since c) (disks.may_leave a) (disks.may_leave b) (disks.may_leave a) calm.within (r.unwritten_within is) (λ other h. h) (λ other h. calm.crash other h);
+    calm = λ is. calm_both a b c calm (r.calm is);
     durable = λ is. subst (λ (o : Option (List ℕ)). LeavesWhatIsRead o (disks.may_leave c)) calm.same (r.durable is);
     spares = after (disks.contents a) (disks.contents b) _ _ calm.same (λ image h. spares_after a b c calm image h) r.spares;
     left = after (disks.contents a) (disks.contents b) _ (λ image. IsStoreFile image → NoNewImage (disks.may_leave a) (disks.may_leave c) ⊎ ((other : List ℕ) → disks.may_leave c other → SparesStore image other)) calm.same
@@ -254,11 +250,9 @@ pub refused_new : {D : Type 0} (disks : Disk.Ghosts D) (old new : D) (size : ℕ
 refused_new disks old new size none measured tells later rose blank = record {
   tells = tells;
   later = later;
-  unwritten = λ is. absurd is;
-  unwritten_within = λ is. absurd is;
+  calm = λ is. absurd is;
   caused = of_nothing (disks.contents old) size (λ image. IsOpenFaultOf Disk image) none measured tt;
   rose = λ is. rose;
-  same = λ is. absurd is;
   durable = λ is. absurd is;
   spares = no_store (disks.contents old) size _ none measured;
   left = no_store (disks.contents old) size _ none measured;
@@ -352,11 +346,9 @@ module _ {D : Type 0} (disks : Disk.Ghosts D) (disk mid : D) (states : List Cell
   read_refused new only_now read_now tells later rose left within = record {
     tells = tells ∙ ap is_some calm.same;
     later = later;
-    unwritten = λ is. absurd is;
-    unwritten_within = λ is. absurd is;
+    calm = λ is. absurd is;
     caused = for_told (disks.contents disk) _ (λ image is. tt);
     rose = λ is. rose;
-    same = λ is. absurd is;
     durable = λ is. absurd is;
     spares = read_spares new within;
     left = for_told (disks.contents disk) _ (λ image is file. inr (spared image is));

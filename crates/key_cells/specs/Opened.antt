@@ -66,9 +66,7 @@ pub record IsOpeningRefused {D : Type 0} (disks : Disk.Ghosts D) (old new : D) (
   pub tells : StillTells (disks.contents old) (disks.contents new)
   pub later : disks.faults old ≤ disks.faults new
   pub rose : IsDisk fault → Rose (disks.faults old) (disks.faults new)
-  pub same : IsRefusal fault → disks.contents new ≡ disks.contents old
-  pub unwritten : IsRefusal fault → NoNewImage (disks.may_leave old) (disks.may_leave new)
-  pub unwritten_within : IsRefusal fault → Within (disks.moment old) (disks.moment new) (disks.left_since old) (disks.left_since new) (disks.may_leave old)
+  pub calm : IsRefusal fault → Calm disks old new
   pub durable : IsRefusal fault → LeavesWhatIsRead (disks.contents old) (disks.may_leave new)
   pub spares : IfSome (disks.contents old) (λ image. IsStoreFile image → WithinSpares (disks.moment old) (disks.moment new) (disks.left_since old) (disks.left_since new) (disks.may_leave old) image)
   pub left : IfSome (disks.contents old) (λ image. IsStoreFile image → NoNewImage (disks.may_leave old) (disks.may_leave new) ⊎ ((other : List ℕ) → disks.may_leave new other → SparesStore image other))

@@ -13,6 +13,8 @@ pub const LAST_ID: u32 = 0x3fff_ffff;
 /// How many bytes a cell has behind its first one.
 pub const BODY: usize = 1087;
 
+static BLANK: [u8; 1087] = [0; 1087];
+
 // Writes bytes over those from a place on.
 fn put(out: &mut [u8; 1087], place: usize, bytes: &[u8])
     requires { place + length bytes.now ≤ 1087 }
@@ -49,13 +51,12 @@ pub fn fill_body(attributes: &Attributes, bytes: &[u8], body: &mut [u8; 1087])
     wipe(&mut record);
 }
 
-// Whether bytes are all zeros.
-fn is_zero(bytes: &[u8]) -> bool
+/// Whether bytes are all zeros.
+pub fn is_zero(bytes: &[u8]) -> bool
     requires { length bytes.now ≤ 1087 }
     ensures { IsTrue result ↔ (bytes.now ≡ replicate (length bytes.now) 0) }
 {
-    let zeros: &[u8] = &[0; BODY];
-    bytes == &zeros[..bytes.len()]
+    bytes == &BLANK[..bytes.len()]
 }
 
 // The identifier of a cell.

@@ -8,9 +8,8 @@ ghost use Rattle.key_cells.specs.declared.inspecting.InspectFault.TheVariants.{D
 ghost use Rattle.secret_bytes.specs.Buffer.{bytes_of};
 
 use crate::CellState;
-use crate::body::wipe;
 use crate::cells::{CELLS, place};
-use crate::reading::{CellRead, decode, is_header};
+use crate::reading::{CellRead, cell_at, decode, is_header};
 use key_attributes::Attributes;
 use psa_status::Memory;
 use secret_bytes::Secret;
@@ -56,16 +55,6 @@ fn head_of(image: &[u8]) -> [u8; 64]
     let mut head = [0; 64];
     head.copy_from_slice(&image[..64]);
     head
-}
-
-// Copies the bytes of a cell.
-fn copy_cell(image: &[u8], cell: usize, room: &mut [u8; 1088])
-    requires size { length image.now ≡ 557120 }
-    requires within { cell < 512 }
-    ensures { room.new ≡ part (64 + 1088 * cell) 1088 image.now }
-{
-    let start = place(cell) as usize;
-    room.copy_from_slice(&image[start..start + 1088]);
 }
 
 // The key with these attributes and bytes.
@@ -114,18 +103,11 @@ pub fn inspect(alloc: Global, image: &[u8]) -> Result<Vec<FoundKey>, InspectFaul
     if !is_store(image) {
         return Err(InspectFault::NotAStore);
     }
-    let mut room = [0; 1088];
-    let read = read_keys(alloc, image, &mut room);
-    wipe(&mut room);
-    read
+    read_keys(alloc, image)
 }
 
-// The keys of a store's image. The bytes of the last cell are left in the room.
-fn read_keys(
-    alloc: Global,
-    image: &[u8],
-    room: &mut [u8; 1088],
-) -> Result<Vec<FoundKey>, InspectFault>
+// The keys of a store's image.
+fn read_keys(alloc: Global, image: &[u8]) -> Result<Vec<FoundKey>, InspectFault>
     requires store { IsStoreFile image.now }
     ensures opens { OnOk result (Opens image.now) }
     ensures keys { IfOk result (λ keys. AreKeysOf keys.items image.now) }
@@ -138,7 +120,7 @@ fn read_keys(
     };
     let mut keys = Vec::new(alloc);
     for cell in 0..CELLS {
-        copy_cell(image, cell, room);
+        let room = cell_at(image, place(cell) as usize);
         let Some(read) = decode(room, &states[..cell], keys.len() as u64) else {
             return Err(InspectFault::DamagedCell { cell });
         };

@@ -1,20 +1,23 @@
 // What an opening reads.
-ghost use Rattle.std.specs.Prelude.{◌≡◌, ◌≢◌, ◌≤◌, drop, false, length, IsErrOf, ◌<◌, ◌+◌, ◌*◌, cond, take, IfOk, IfErr, IfSome, OnOk, IsTrue, MatchOption, ◌↔◌, ℕ};
+ghost use Rattle.std.specs.Prelude.{◌≡◌, ◌≢◌, ◌≤◌, drop, false, length, IsErrOf, ◌<◌, ◌+◌, ◌*◌, ◌%◌, cond, take, IfOk, IfErr, IfSome, OnOk, IsTrue, MatchOption, ◌↔◌, ℕ};
 ghost use Rattle.psa_status.specs.Causes.{HasCause, Rose};
 ghost use Rattle.disk_face.specs.Disk.{NoNewImage, Elapses};
 ghost use Rattle.key_cells.specs.Contents.{is_open, HasNoKey, IsFirstWithKey};
 ghost use Rattle.key_cells.specs.Image.{IsStoreFile};
-ghost use Rattle.key_cells.specs.Opening.{GivesPart, IsBadCell, Reads, ReadsCell, ReadsKey, ReadsBelow, HasOneEach, IsNumbered, IsNamed};
+ghost use Rattle.key_cells.specs.Opening.{GivesBlock, GivesPart, IsBadCell, Reads, ReadsCell, ReadsKey, ReadsBelow, HasOneEach, IsNumbered, IsNamed};
 ghost use Rattle.key_cells.specs.Causes.{IsOpenFaultOf, IsDisk};
 ghost use Rattle.key_cells.specs.Opened.{Calm};
-ghost use Rattle.key_cells.specs.Layout.{opened_gate, zeros, header};
+ghost use Rattle.key_cells.specs.Layout.{opened_gate, header, part};
 
 use crate::CellState;
-use crate::body::{read_key, wipe};
+use crate::body::{is_zero, read_key};
 use crate::cells::{CELLS, CLOSED, OPENED, place};
 use disk_face::Disk;
 use key_attributes::Attributes;
 use psa_status::Failed;
+
+// So many cells are read at once.
+const BLOCK: usize = 64;
 
 /// Reads the bytes of a cell.
 pub fn read_cell<D: Disk>(disk: &mut D, cell: usize, bytes: &mut [u8; 1088]) -> Result<(), Failed>
@@ -28,6 +31,33 @@ pub fn read_cell<D: Disk>(disk: &mut D, cell: usize, bytes: &mut [u8; 1088]) -> 
     ensures cause { HasCause (D.faults disk.old) (D.faults disk.new) result }
 {
     disk.read_at(place(cell), bytes)
+}
+
+/// The bytes of a cell, from a place on.
+pub fn cell_at(bytes: &[u8], place: usize) -> &[u8; 1088]
+    requires { place + 1088 ≤ length bytes.now }
+    ensures { result.now ≡ part place 1088 bytes.now }
+{
+    bytes[place..].first_chunk().unwrap()
+}
+
+// Reads a block of cells, where one begins with this cell; else its block has been read.
+#[tactic(auto, using(crate::proofs::Opened::calm_none, crate::proofs::Opened::calm_one))]
+fn read_block<D: Disk>(disk: &mut D, cell: usize, block: &mut [u8]) -> Result<(), Failed>
+    requires size { D.size disk.old ≡ 557120 }
+    requires within { cell < 512 }
+    requires room { length block.old ≡ 69632 }
+    requires read { cell % 64 ≢ 0 → GivesBlock (D.contents disk.old) cell block.old }
+    ensures bytes { OnOk result (GivesBlock (D.contents disk.old) cell block.new) }
+    ensures room { length block.new ≡ 69632 }
+    ensures size { D.size disk.new ≡ D.size disk.old }
+    ensures calm { Calm D.Disk disk.old disk.new }
+    ensures cause { HasCause (D.faults disk.old) (D.faults disk.new) result }
+{
+    if cell % BLOCK == 0 {
+        return disk.read_at(place(cell), block);
+    }
+    Ok(())
 }
 
 /// The cell of a key, among these states.
@@ -81,7 +111,7 @@ fn decode_closed(bytes: &[u8; 1088]) -> CellState
     if bytes[0] != CLOSED {
         return CellState::Unsure;
     }
-    if is_clear(&bytes[1..]) {
+    if is_zero(&bytes[1..]) {
         return CellState::Free;
     }
     CellState::Shut
@@ -107,14 +137,6 @@ fn counted(found: u64, state: &CellState) -> u64
     ensures { result ≡ found + cond (is_open state.now) 1 0 }
 {
     if state.has_key() { found + 1 } else { found }
-}
-
-// Whether a body is all zeros.
-fn is_clear(body: &[u8]) -> bool
-    ensures { IsTrue result ↔ (body.now ≡ zeros) }
-{
-    let zeros: &[u8] = &[0; 1087];
-    body == zeros
 }
 
 /// Whether these are the header's bytes.
@@ -154,11 +176,16 @@ pub enum OpenFault {
     Memory,
 }
 
-/// Reads the header and the cells, and writes nothing.
+/// Reads the header and the cells, and writes nothing. The bytes of the last cells are left in the room for a block.
 #[tactic(auto, using(crate::proofs::Opened::calm_both))]
-pub fn read_store<D: Disk>(disk: &mut D, states: &mut Vec<CellState>) -> Result<(), OpenFault>
+pub fn read_store<D: Disk>(
+    disk: &mut D,
+    states: &mut Vec<CellState>,
+    block: &mut [u8],
+) -> Result<(), OpenFault>
     requires size { D.size disk.old ≡ 557120 }
     requires states { length states.old.items ≡ 512 }
+    requires room { length block.old ≡ 69632 }
     ensures store { OnOk result (IfSome (D.contents disk.old) (λ image. IsStoreFile image)) }
     ensures read { OnOk result (IfSome (D.contents disk.old) (λ image. ReadsBelow 512 states.new.items image)) }
     ensures one { OnOk result (HasOneEach 512 states.new.items) }
@@ -177,21 +204,19 @@ pub fn read_store<D: Disk>(disk: &mut D, states: &mut Vec<CellState>) -> Result<
     if !is_header(&bytes) {
         return Err(OpenFault::NotAStore);
     }
-    let mut room = [0; 1088];
-    let read = read_states(disk, states, &mut room);
-    wipe(&mut room);
-    read
+    read_states(disk, states, block)
 }
 
-// Reads the cells of a store. The bytes of the last one are left in the room.
+// Reads the cells of a store, each block of them at once.
 #[tactic(auto, using(crate::proofs::Opened::calm_none, crate::proofs::Opened::calm_one, crate::proofs::Opened::calm_both))]
 fn read_states<D: Disk>(
     disk: &mut D,
     states: &mut Vec<CellState>,
-    room: &mut [u8; 1088],
+    block: &mut [u8],
 ) -> Result<(), OpenFault>
     requires size { D.size disk.old ≡ 557120 }
     requires states { length states.old.items ≡ 512 }
+    requires room { length block.old ≡ 69632 }
     requires store { IfSome (D.contents disk.old) (λ image. IsStoreFile image) }
     ensures read { OnOk result (IfSome (D.contents disk.old) (λ image. ReadsBelow 512 states.new.items image)) }
     ensures one { OnOk result (HasOneEach 512 states.new.items) }
@@ -205,11 +230,12 @@ fn read_states<D: Disk>(
 {
     let mut found = 0;
     for cell in 0..CELLS {
-        match read_cell(disk, cell, room) {
+        match read_block(disk, cell, block) {
             Ok(()) => {}
             Err(Failed) => return Err(OpenFault::Disk),
         }
-        let Some(read) = decode(room, &states[..cell], found) else {
+        let bytes = cell_at(block, 1088 * (cell % BLOCK));
+        let Some(read) = decode(bytes, &states[..cell], found) else {
             return Err(OpenFault::DamagedCell { cell });
         };
         found = counted(found, &read.state);

@@ -11,6 +11,7 @@ use outside_io::{Sink, Source};
 use psa_status::Failed;
 use std::fs::File;
 use std::io::{self, ErrorKind, Read, Seek, SeekFrom, Write};
+use std::os::unix::fs::FileExt;
 
 /// A source over a reader.
 #[derive(Drop)]
@@ -170,16 +171,6 @@ fn counted<T>(faults: &mut u64, answer: io::Result<T>) -> Result<T, Failed>
     }
 }
 
-fn read_at(file: &mut File, place: u64, out: &mut [u8]) -> io::Result<()> {
-    file.seek(SeekFrom::Start(place))?;
-    file.read_exact(out)
-}
-
-fn write_at(file: &mut File, place: u64, bytes: &[u8]) -> io::Result<()> {
-    file.seek(SeekFrom::Start(place))?;
-    file.write_all(bytes)
-}
-
 /// Fails where this would shorten the file, which may be longer than is known.
 fn lengthen(file: &mut File, length: u64) -> io::Result<()> {
     if file.seek(SeekFrom::End(0))? > length {
@@ -208,11 +199,11 @@ impl Disk for FileDisk {
     }
 
     fn read_at(&mut self, place: u64, out: &mut [u8]) -> Result<(), Failed> {
-        counted(&mut self.faults, read_at(&mut self.file, place, out))
+        counted(&mut self.faults, self.file.read_exact_at(out, place))
     }
 
     fn write_at(&mut self, place: u64, bytes: &[u8]) -> Result<(), Failed> {
-        counted(&mut self.faults, write_at(&mut self.file, place, bytes))
+        counted(&mut self.faults, self.file.write_all_at(bytes, place))
     }
 
     fn extend(&mut self, length: u64) -> Result<(), Failed> {

@@ -1,4 +1,4 @@
-use Rattle.key_cells.proofs.Common.{Some, ap, arith, length, length-set, ◌<◌, ◌∙◌}
+use Rattle.key_cells.proofs.Common.{Some, ap, arith, length, length-set, part, ◌<◌, ◌∙◌}
 use Rattle.key_cells.proofs.Finding.{first_damaged, not_damaged, one_more, reads_more}
 use Rattle.key_cells.proofs.Inspection.{first_keys_more, no_keys}
 use Rattle.key_cells.proofs.inspecting.read_keys.Goals as goal
@@ -14,8 +14,8 @@ loop-cell-init c = record {
 pub returns-in_default-clause-fault : goal.returns-in_default-clause-fault
 returns-in_default-clause-fault c =
     let i = c.loop-cell.invariant in
-    first_damaged (Some c.args.image.now) c.loop-cell.cell c.loop-cell.states.items c.copy_cell.new.room (omega arith) i.count c.requires.store i.read i.one
-    c.copy_cell.ensures (rw c.deref.ensures.value at c.in_default.ensures)
+    first_damaged (Some c.args.image.now) c.loop-cell.cell c.loop-cell.states.items c.cell_at-room.result.now (omega arith) i.count c.requires.store i.read i.one
+    (c.cell_at-room.ensures ∙ ap (λ n. part n 1088 c.args.image.now) c.place.ensures) (rw c.deref.ensures.value at c.in_default.ensures)
 
 pub loop-cell-preserved : goal.loop-cell-preserved
 loop-cell-preserved c =
@@ -27,9 +27,9 @@ loop-cell-preserved c =
     let lt : cell < length states = omega arith in
     record {
       count = length-set states cell state ∙ i.count;
-      read = reads_more (Some c.args.image.now) cell states state c.copy_cell.new.room lt i.read c.copy_cell.ensures read.0.reads;
+      read = reads_more (Some c.args.image.now) cell states state c.cell_at-room.result.now lt i.read (c.cell_at-room.ensures ∙ ap (λ n. part n 1088 c.args.image.now) c.place.ensures) read.0.reads;
       one = one_more cell states state lt i.one (λ id has. rw c.deref.ensures.value at (read.0.new id has));
-      keys = first_keys_more cell c.args.image.now c.copy_cell.new.room c.loop-cell.keys.items c.keep_key.new.keys.items c.copy_cell.ensures i.keys c.in-Some.read.key read.1 c.in_ok-keep_key.ensures;
+      keys = first_keys_more cell c.args.image.now c.cell_at-room.result.now c.loop-cell.keys.items c.keep_key.new.keys.items (c.cell_at-room.ensures ∙ ap (λ n. part n 1088 c.args.image.now) c.place.ensures) i.keys c.in-Some.read.key read.1 c.in_ok-keep_key.ensures;
     }
 
 pub returns-clause-opens : goal.returns-clause-opens
