@@ -1,3 +1,4 @@
 mod Common
 pub mod Maps
 pub mod Rooms
+pub mod Searches

@@ -1,9 +1,12 @@
 -- Maps of handles: what an insertion and a removal leave.
-use Rattle.std.proofs.Common.{Bool, None, Option, Some, ap, arith, cond, false, is_some, refl, sym, true, ℕ, ◌+◌, ◌-◌, ◌==◌, ◌∙◌, ◌≡◌, ◌≤◌}
+use Rattle.std.proofs.Common.{Bool, None, Option, Some, ap, arith, cond, eq-eqb, false, is_some, refl, sym, true, ℕ, ◌+◌, ◌-◌, ◌==◌, ◌∙◌, ◌≡◌, ◌≤◌}
 use Rattle.soft_driver.proofs.Common.{nat_cmp_total, nat_tests}
 use Rattle.std.specs.Ordering.{nat_cmp}
 use Rattle.std.specs.Cmp.{unsigned_tied}
 use Rattle.std.specs.FinMap.{FinMap, get, insert, remove, len, get-insert, get-remove, len-insert, len-remove, same_map, nat_cmp-IsAntisymmetric}
+
+not_both : (q j k : ℕ) → (j ≡ k → ⊥) → (q == k) ≡ true → (q == j) ≡ true → ⊥
+not_both q j k other a b = other (let x : q ≡ k = grind (arith, nat_tests) in let y : q ≡ j = grind (arith, nat_tests) in sym y ∙ x)
 
 module _ {X : Type 0} where
   pub put : (m : FinMap nat_cmp X) (k : ℕ) (v : X) (q : ℕ) → get (insert m k v) q ≡ cond (q == k) (Some v) (get m q)
@@ -27,18 +30,35 @@ module _ {X : Type 0} where
   remove-insert m k v none =
       alike _ _ (λ q. taken (insert m k v) k q ∙ ap (cond (q == k) None) (put m k v q) ∙ at_key (q == k) (get m q) v (none_at m k q none))
 
-  crossed : (b c : Bool) (o : Option X) (v : X) → (b ≡ true → c ≡ true → ⊥) → cond b (Some v) (cond c None o) ≡ cond c None (cond b (Some v) o)
-  crossed true true o v h = absurd (h refl refl)
-  crossed true false o v h = refl
-  crossed false c o v h = refl
+  crossed : (b c : Bool) (o v w : Option X) → (b ≡ true → c ≡ true → ⊥) → cond b v (cond c w o) ≡ cond c w (cond b v o)
+  crossed true true o v w h = absurd (h refl refl)
+  crossed true false o v w h = refl
+  crossed false c o v w h = refl
 
   -- two handles are changed in either order
   pub insert-remove : (m : FinMap nat_cmp X) (j k : ℕ) (v : X) → (j ≡ k → ⊥) → insert (remove m j) k v ≡ remove (insert m k v) j
   insert-remove m j k v other =
       alike _ _ (λ q.
       put (remove m j) k v q ∙ ap (cond (q == k) (Some v)) (taken m j q)
-      ∙ crossed (q == k) (q == j) (get m q) v (λ a b. other (let x : q ≡ k = grind (arith, nat_tests) in let y : q ≡ j = grind (arith, nat_tests) in sym y ∙ x))
+      ∙ crossed (q == k) (q == j) (get m q) (Some v) None (not_both q j k other)
       ∙ sym (taken (insert m k v) j q ∙ ap (cond (q == j) None) (put m k v q)))
+
+  pub insert-insert : (m : FinMap nat_cmp X) (j k : ℕ) (w v : X) → (j ≡ k → ⊥) → insert (insert m j w) k v ≡ insert (insert m k v) j w
+  insert-insert m j k w v other =
+      alike _ _ (λ q.
+      put (insert m j w) k v q ∙ ap (cond (q == k) (Some v)) (put m j w q)
+      ∙ crossed (q == k) (q == j) (get m q) (Some v) (Some w) (not_both q j k other)
+      ∙ sym (put (insert m k v) j w q ∙ ap (cond (q == j) (Some w)) (put m k v q)))
+
+  apart_at : (b : Bool) (o : Option X) (v : X) → cond b (Some v) o ≡ None → (b ≡ false) × (o ≡ None)
+  apart_at true o v h = let clash : ◌≡◌ {A = Option X} (Some v) None = h in cc
+  apart_at false o v h = (refl, h)
+
+  -- what is still new after an insertion was new before, and isn't what was brought
+  pub still_new : (m : FinMap nat_cmp X) (k : ℕ) (v : X) (q : ℕ) → get (insert m k v) q ≡ None → (q ≡ k → ⊥) × (get m q ≡ None)
+  still_new m k v q none =
+      let both = apart_at (q == k) (get m q) v (sym (put m k v q) ∙ none) in
+      ((λ same. let no : true ≡ false = sym (eq-eqb q k same) ∙ both.0 in cc), both.1)
 
   pub len_more : (m : FinMap nat_cmp X) (k : ℕ) (v : X) → get m k ≡ None → len (insert m k v) ≡ len m + 1
   len_more m k v none = len-insert nat_cmp_total m k v ∙ ap (λ o. cond (is_some o) (len m) (len m + 1)) none

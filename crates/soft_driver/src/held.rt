@@ -1,55 +1,77 @@
-// A list of held keys, and buffers without one.
-ghost use Rattle.std.specs.Prelude.{◌≡◌, ◌≤◌, ◌<◌, ◌==◌, ⊤, All, IfOk, length};
-ghost use Rattle.std.specs.List.{position, position_or_len};
+// The list of held keys, by rising handles.
+ghost use Rattle.std.specs.Prelude.{◌≡◌, ◌≤◌, ◌<◌, All, IfOk, IfErr, length, replicate, take};
+ghost use Rattle.std.specs.List.{remove};
+ghost use Rattle.std.specs.List.Sorted.{IsNonDecreasingBy};
 ghost use Rattle.std.specs.Vec.{vec_capacity};
-ghost use Rattle.secret_bytes.specs.Buffer.{IsClear};
-ghost use Rattle.driver_dispatch.specs.Held.{held_key};
-ghost use Rattle.driver_dispatch.specs.Calls.{IsSomeKey};
-ghost use Rattle.soft_driver.specs.Room.{keys_of};
+ghost use Rattle.soft_driver.specs.Room.{HasHandleAt, HasClearBuffer, IsGapFor, LacksHandle};
 
 use key_attributes::KeyType;
-use psa_status::Memory;
-use secret_bytes::Secret;
-use std::alloc::Global;
 
-/// So many keys are held at most.
-pub const ROOM: usize = 4096;
-
-/// A key under its handle.
+/// A key under its handle. Its bytes are the first so many of the buffer.
 #[derive(Drop)]
 pub struct Held {
     pub handle: u64,
     pub key_type: KeyType,
-    pub secret: Secret,
+    pub length: usize,
+    pub buffer: [u8; 1024],
 }
 
-/// As many buffers of zeros as there is room for.
-pub fn clear_secrets(alloc: Global) -> Result<Vec<Secret>, Memory>
-    ensures clear { IfOk result (λ spare. All IsClear spare.items) }
-    ensures count { IfOk result (λ spare. length spare.items ≡ 4096) }
-    ensures room { IfOk result (λ spare. 4096 ≤ vec_capacity spare) }
+// The index of the key with a handle, or where it would go.
+fn search(held: &[Held], handle: u64) -> Result<usize, usize>
+    requires { IsNonDecreasingBy (λ key. key.handle) held.now }
+    ensures found { IfOk result (λ index. HasHandleAt held.now handle index) }
+    ensures gap { IfErr result (λ index. IsGapFor held.now handle index) }
 {
-    let Ok(mut spare) = Vec::with_capacity(alloc, ROOM) else {
-        return Err(Memory);
-    };
-    'secrets: for _ in 0..ROOM {
-        spare.push_reserved(Secret::new(alloc)?);
+    held.binary_search_by_key(&handle, |key| key.handle)
+}
+
+/// The index of a key that is held.
+pub fn held_index(held: &[Held], handle: u64) -> usize
+    requires rising { IsNonDecreasingBy (λ key. key.handle) held.now }
+    requires there { LacksHandle held.now handle → ⊥ }
+    ensures { HasHandleAt held.now handle result }
+{
+    search(held, handle).unwrap()
+}
+
+/// Where a key goes that isn't held.
+pub fn gap_for(held: &[Held], handle: u64) -> usize
+    requires rising { IsNonDecreasingBy (λ key. key.handle) held.now }
+    requires new { LacksHandle held.now handle }
+    ensures { IsGapFor held.now handle result }
+{
+    search(held, handle).unwrap_err()
+}
+
+/// Writes bytes over the first ones of a buffer.
+pub fn write_front(buffer: &mut [u8; 1024], bytes: &[u8])
+    requires { length bytes.now ≤ 1024 }
+    ensures { take (length bytes.now) buffer.new ≡ bytes.now }
+{
+    buffer[..bytes.len()].copy_from_slice(bytes);
+}
+
+/// Lets a key go that is held. Its buffer is zeros first, and no other key's bytes are left behind the last.
+pub fn let_key_go(held: &mut Vec<Held>, index: usize)
+    requires { index < length held.old.items }
+    ensures others { held.new.items ≡ remove held.old.items index }
+    ensures room { vec_capacity held.new ≡ vec_capacity held.old }
+{
+    held[index].buffer = [0; 1024];
+    held[index..].rotate_left(1);
+    release(held.pop().unwrap());
+}
+
+// Lets a key go whose buffer is zeros.
+fn release(key: Held)
+    requires { HasClearBuffer key }
+{}
+
+/// Makes the buffers of all keys zeros.
+pub fn clear(held: &mut [Held])
+    ensures { All HasClearBuffer held.new }
+{
+    for place in 0..held.len() {
+        held[place].buffer = [0; 1024];
     }
-    Ok(spare)
-}
-
-// The place of the first key with a handle.
-fn place_of(held: &[Held], handle: u64) -> Option<usize>
-    ensures { result ≡ position (λ key. key.handle == handle) held.now }
-{
-    held.iter().position(|key| key.handle == handle)
-}
-
-/// The place of a key that is held.
-pub fn held_place(held: &[Held], handle: u64) -> usize
-    requires { IsSomeKey (held_key (keys_of held.now) handle) (λ key. ⊤) }
-    ensures inside { result < length held.now }
-    ensures first { result ≡ position_or_len (λ key. key.handle == handle) held.now }
-{
-    place_of(held, handle).unwrap()
 }

@@ -1,22 +1,24 @@
-// The keys that are held, in buffers that are taken at the start.
-ghost use Rattle.std.specs.Prelude.{◌≡◌, ⊤, false, None, IfOk, IsTrue, length};
+// The keys that are held, in buffers that are reserved at the start.
+ghost use Rattle.std.specs.Prelude.{◌≡◌, ⊤, All, false, None, IfOk, IsTrue, length};
 ghost use Rattle.key_attributes.specs.Checks.{permits_size};
 ghost use Rattle.driver_dispatch.specs.Held.{HeldKey, held_key, no_keys, with_copy, with_held_key, without_key};
 ghost use Rattle.driver_dispatch.specs.Calls.{IsSomeKey};
+ghost use Rattle.soft_driver.specs.Room.{HasClearBuffer};
 ghost use Rattle.soft_driver.specs.Sizes.{IsSized, is_room_full};
 
-use crate::held::{Held, ROOM, clear_secrets, held_place};
+use crate::held::{Held, clear, gap_for, held_index, let_key_go, write_front};
 use key_attributes::KeyType;
 use psa_status::Memory;
-use secret_bytes::Secret;
 use std::alloc::Global;
 use std::marker::Model;
 
-/// Room for 4,096 keys. A buffer without a key is spare, and all zeros.
-#[derive(Drop)]
+// So many keys are held at most.
+const ROOM: usize = 4096;
+
+/// Room for 4,096 keys, which is reserved at the start and written as keys come. Where a key is let go, its buffer is
+/// zeros first.
 pub struct KeyRoom {
     held: Vec<Held>,
-    spare: Vec<Secret>,
 }
 
 impl Model for KeyRoom {
@@ -30,7 +32,7 @@ impl Model for KeyRoom {
 
     ghost view = { λ r. keys_of r.held.items };
 
-    ghost invariant = { λ r. IsKeyRoom r.held.items r.spare.items (vec_capacity r.held) (vec_capacity r.spare) };
+    ghost invariant = { λ r. IsKeyRoom r.held.items (vec_capacity r.held) };
 }
 
 impl KeyRoom {
@@ -41,8 +43,7 @@ impl KeyRoom {
         let Ok(held) = Vec::with_capacity(alloc, ROOM) else {
             return Err(Memory);
         };
-        let spare = clear_secrets(alloc)?;
-        Ok(KeyRoom { held, spare })
+        Ok(KeyRoom { held })
     }
 
     /// Whether there is no room for a further key.
@@ -52,13 +53,21 @@ impl KeyRoom {
         self.held.len() == ROOM
     }
 
+    // The type and the bytes of a key.
+    fn find(&self, handle: u64) -> (KeyType, &[u8])
+        requires { IsSomeKey (held_key self.now handle) (λ key. ⊤) }
+        ensures { IsSomeKey (held_key self.now handle) (λ key. (key ≡ record { key_type = result.0.0; bytes = result.1.now }) × IsSized key) }
+    {
+        let key = &self.held[held_index(&self.held, handle)];
+        (key.key_type, &key.buffer[..key.length])
+    }
+
     /// The bytes of a key.
     pub fn key(&self, handle: u64) -> &[u8]
         requires { IsSomeKey (held_key self.now handle) (λ key. ⊤) }
         ensures { IsSomeKey (held_key self.now handle) (λ key. (result.now ≡ key.bytes) × IsSized key) }
     {
-        let place = held_place(&self.held, handle);
-        self.held[place].secret.as_slice()
+        self.find(handle).1
     }
 
     /// Takes a key under a new handle.
@@ -68,13 +77,15 @@ impl KeyRoom {
         requires size { IsTrue (permits_size key_type.0 (length bytes.now)) }
         ensures { self.new ≡ with_held_key handle (record { key_type = key_type.0; bytes = bytes.now }) self.old }
     {
-        let mut secret = self.spare.pop().unwrap();
-        secret.fill_from(bytes);
-        self.held.push_reserved(Held {
+        let gap = gap_for(&self.held, handle);
+        let key = Held {
             handle,
             key_type,
-            secret,
-        });
+            length: bytes.len(),
+            buffer: [0; 1024],
+        };
+        self.held.insert(gap, key).unwrap();
+        write_front(&mut self.held[gap].buffer, bytes);
     }
 
     /// Puts a key under a new handle too.
@@ -84,26 +95,33 @@ impl KeyRoom {
         requires new { held_key self.old to ≡ None }
         ensures { self.new ≡ with_copy from to self.old }
     {
-        let mut secret = self.spare.pop().unwrap();
-        let place = held_place(&self.held, from);
-        let source = &self.held[place];
-        let key_type = source.key_type;
-        secret.fill_from(source.secret.as_slice());
-        self.held.push_reserved(Held {
-            handle: to,
-            key_type,
-            secret,
-        });
+        let (key_type, source) = self.find(from);
+        let length = source.len();
+        let mut bytes = [0; 1024];
+        write_front(&mut bytes, source);
+        self.put(to, key_type, &bytes[..length]);
+        bytes.fill(0);
     }
 
-    /// Forgets a key, whose buffer is wiped.
+    /// Forgets a key.
     pub fn remove(&mut self, handle: u64)
         requires { IsSomeKey (held_key self.old handle) (λ key. ⊤) }
         ensures { self.new ≡ without_key handle self.old }
     {
-        let place = held_place(&self.held, handle);
-        let Held { mut secret, .. } = self.held.remove(place);
-        secret.wipe();
-        self.spare.push_reserved(secret);
+        let index = held_index(&self.held, handle);
+        let_key_go(&mut self.held, index);
     }
 }
+
+impl Drop for KeyRoom {
+    fn drop(self) {
+        let KeyRoom { mut held } = self;
+        clear(&mut held);
+        release(held);
+    }
+}
+
+// Lets keys go whose buffers are zeros.
+fn release(held: Vec<Held>)
+    requires { All HasClearBuffer held.items }
+{}
