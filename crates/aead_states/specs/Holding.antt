@@ -1,8 +1,8 @@
 -- What the state of an AEAD operation stands for.
-use Rattle.std.specs.Prelude.{◌≡◌, true, false, [], length, is_some, MatchBool}
+use Rattle.std.specs.Prelude.{◌≡◌, true, false, [], length, is_some, IfSome, MatchBool}
 use Rattle.store_model.specs.Prelude.{is_ccm, tag_bytes, Operation, bytes_or_empty, AeadWork, declared_payload}
 use Rattle.key_policy.specs.Names.{is_ccm as is_ccm_kind}
-use Rattle.multipart.specs.States.{StandsForOperation}
+use Rattle.multipart.specs.States.{StandsForOptional}
 use Rattle.aead_states.specs.declared.running.RunningAead.{RunningAead}
 use Rattle.aead_states.specs.declared.state.AeadState.{AeadState}
 use Rattle.aead_states.specs.DeclaredLengths.{declared_ad, declared_lengths}
@@ -14,7 +14,7 @@ pub record IsClearRunningAead (s : RunningAead) : Type 0 where
   pub parts : IsClearParts s.parts
 
 abbrev pub IsClearAead : AeadState → Type 0
-IsClearAead s = IsClearRunningAead s.state.work
+IsClearAead s = IfSome s.state.work IsClearRunningAead
 
 -- before the nonce is there nothing was given
 pub record IsUnbegun (w : AeadWork) : Type 0 where
@@ -50,4 +50,4 @@ pub record HoldsAead (s : RunningAead) (w : AeadWork) : Type 0 where
 
 -- the state stands for this operation
 abbrev pub IsAeadOperation : AeadState → Operation AeadWork → Type 0
-IsAeadOperation s op = StandsForOperation IsClearRunningAead HoldsAead s.state op
+IsAeadOperation s op = StandsForOptional IsClearRunningAead HoldsAead s.state op

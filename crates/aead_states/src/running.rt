@@ -40,19 +40,17 @@ pub(crate) struct RunningAead {
 impl RunningAead {
     ghost use Rattle.aead_states.specs.Holding.{HoldsAead, IsClearRunningAead};
 
-    pub(crate) fn new() -> RunningAead
-        ensures { IsClearRunningAead result }
+    // With a key, and nothing else yet.
+    pub(crate) fn begun(encrypts: bool, key: &[u8], aead: AeadAlgorithm) -> RunningAead
+        requires key { IsKey key.now }
+        requires aead { IsTagLength aead.kind aead.tag_length }
+        ensures { (alg : ℕ) → NamesAead alg aead → HoldsAead result (aead_work encrypts alg key.now) }
     {
-        let mut key = aes_key(&[0; 16]);
-        key.wipe();
         RunningAead {
-            encrypts: false,
-            aead: AeadAlgorithm {
-                kind: AeadKind::Gcm,
-                tag_length: 16,
-            },
-            key,
-            has_key: false,
+            encrypts,
+            aead,
+            key: aes_key(key),
+            has_key: true,
             lengths: None,
             has_nonce: false,
             ad: 0,
@@ -60,23 +58,6 @@ impl RunningAead {
             has_text: false,
             parts: Parts::new(),
         }
-    }
-
-    // Begins with a key, and nothing else yet.
-    pub(crate) fn start(&mut self, encrypts: bool, key: &[u8], aead: AeadAlgorithm)
-        requires key { IsKey key.now }
-        requires aead { IsTagLength aead.kind aead.tag_length }
-        ensures { (alg : ℕ) → NamesAead alg aead → HoldsAead self.new (aead_work encrypts alg key.now) }
-    {
-        self.encrypts = encrypts;
-        self.aead = aead;
-        self.key = aes_key(key);
-        self.has_key = true;
-        self.lengths = None;
-        self.has_nonce = false;
-        self.ad = 0;
-        self.text = 0;
-        self.has_text = false;
     }
 
     // Takes the lengths in bytes of the associated data and of the payload.

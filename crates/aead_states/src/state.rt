@@ -21,7 +21,7 @@ use service_calls::{AeadStep, Output};
 /// makes the tag or compares it.
 #[derive(Drop)]
 pub struct AeadState {
-    pub(crate) state: OperationState<RunningAead>,
+    pub(crate) state: OperationState<Option<RunningAead>>,
 }
 
 impl AeadState {
@@ -30,7 +30,7 @@ impl AeadState {
         ensures { IsAeadOperation result Inactive }
     {
         AeadState {
-            state: OperationState::new(RunningAead::new()),
+            state: OperationState::new(None),
         }
     }
 
@@ -66,7 +66,7 @@ impl AeadState {
     {
         self.state.phase.check_inactive()?;
         let aead = alg.aead()?;
-        self.state.work.start(encrypts, key, aead);
+        self.state.work = Some(RunningAead::begun(encrypts, key, aead));
         self.state.phase = Phase::Active;
         Ok(())
     }
@@ -113,7 +113,7 @@ impl<'a> Family<AeadStep<'a>> for AeadState {
     }
 
     fn takes_random(step: &AeadStep<'a>) -> bool {
-        RunningAead::takes_random(step)
+        <Option<RunningAead>>::takes_random(step)
     }
 
     fn draws(&self, step: &AeadStep<'a>, room: usize) -> usize {

@@ -1,6 +1,5 @@
 -- A text that begins.
-use Rattle.std.proofs.Common.{Bool, List, [], false, inl, inr, length, not, subst, sym, true, ℕ, ◌&&◌, ◌==◌, ◌||◌, ◌∙◌, ◌≡◌}
-use Rattle.cipher_states.proofs.Common.{aes_encrypt, block_number, bytes_or_empty, cases_Bool, chains, CipherWork, Ctr, EcbNoPadding, is_stream, IsAt, iv_length, keeps_last, Mode, mode_of, not-true, RunningCipher, RunsBlocks, RunsMode, way_of, Whole}
+use Rattle.cipher_states.proofs.Common.{Bool, CipherWork, Ctr, EcbNoPadding, IsAt, List, Mode, RunningCipher, RunsBlocks, RunsMode, Whole, [], aes_encrypt, block_number, bytes_or_empty, cases_Bool, chains, false, inl, inr, is_stream, iv_length, keeps_last, length, mode_of, not, not-true, subst, sym, true, way_of, ℕ, ◌&&◌, ◌==◌, ◌||◌, ◌∙◌, ◌≡◌}
 use Rattle.cipher_states.proofs.RunningTexts.{by_stream, by_blocks}
 use Rattle.std.proofs.Math.Bool.{or-false}
 

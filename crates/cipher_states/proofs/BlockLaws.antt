@@ -1,8 +1,6 @@
 -- ECB and CBC of a text in two parts, of which the first is whole blocks.
-use Rattle.std.proofs.Common.{List, [], ap, append_assoc, ap₂, arith, drop, length, map, refl, suc, sym, take, zero, ℕ, ◌%◌, ◌*◌, ◌++◌, ◌+◌, ◌/◌, ◌∙◌, ◌∷◌, ◌≡◌}
-use Rattle.cipher_states.proofs.Common.{blocks, cbc_blocks, cbc_plain_blocks, drop-append-le, joined, last_ciphertext_block, take-append-le, xor_bytes}
+use Rattle.cipher_states.proofs.Common.{List, [], ap, append-nil, append_assoc, ap₂, arith, blocks, cbc_blocks, cbc_plain_blocks, drop, drop-append-le, drop-drop, drop_at, joined, last_ciphertext_block, length, length-append, length-drop, length-take, map, refl, suc, sym, take, take-append-drop, take-append-le, xor_bytes, zero, ℕ, ◌%◌, ◌*◌, ◌++◌, ◌+◌, ◌/◌, ◌∙◌, ◌∷◌, ◌≡◌}
 use Rattle.std.proofs.lemmas.Grind.{flat_map-append}
-use Rattle.std.proofs.lemmas.List.{length-append, length-take, length-drop, take-append-drop, append-nil, drop-drop, drop_at}
 use Rattle.crypto_specs.proofs.XorBytes.{length-xor_bytes}
 
 -- ---- blocks

@@ -1,11 +1,8 @@
 -- The output that is due, by the mode and the direction.
-use Rattle.std.proofs.Common.{Bool, List, ap, ap₂, cond, drop, false, inl, inr, length, refl, subst, sym, take, true, ℕ, ◌++◌, ◌∙◌, ◌≡◌, ◌≤◌}
-use Rattle.cipher_states.proofs.Common.{aes_encrypt, block_number, bytes_or_empty, cases_Bool, CbcNoPadding, chains, cipher_due, Ctr, ctr_xor, due_bytes, due_deciphered, due_enciphered, is_stream, keeps_last, length-text_xor, Mode, mode_of, next_chain, processed, take-append-le, text_xor, text_xor-append, Way, way_of, Whole, with_text}
-use Rattle.std.proofs.lemmas.List.{length-append, take_at, drop_at, take-append-drop, take-take}
+use Rattle.cipher_states.proofs.Common.{Bool, CbcNoPadding, Ctr, List, Mode, Way, Whole, aes_encrypt, ap, ap₂, block_number, bytes_or_empty, cases_Bool, chains, cipher_due, cond, ctr_xor, drop, drop_at, due_bytes, due_deciphered, due_enciphered, false, inl, inr, is_stream, keeps_last, length, length-append, length-text_xor, mode_of, next_chain, processed, refl, rules, subst, sym, take, take-append-drop, take-append-le, take-take, take_at, text_xor, text_xor-append, true, way_of, with_text, ℕ, ◌++◌, ◌∙◌, ◌≡◌, ◌≤◌}
 use Rattle.aead_streams.proofs.ModeStreams.{aes_keeps_length, ctr_is, ctr_further}
 use Rattle.multipart.specs.Dues.{DueGrows}
-use Rattle.cipher_states.proofs.TextPlaces.{due-within, due-more, whole_front}
-use Rattle.cipher_states.proofs.WayLaws.{processed_grows, processed_parts}
+use Rattle.cipher_states.proofs.{TextPlaces.due-within, TextPlaces.due-more, TextPlaces.whole_front, WayLaws.processed_grows, WayLaws.processed_parts}
 
 -- what is due, by the mode
 abbrev pub due_under : Mode → Bool → (key iv text : List ℕ) → List ℕ
@@ -37,9 +34,7 @@ stream_fresh mode encrypts key iv text piece e =
 -- by a way and a place that are known to be the mode's
 module _ (mode : Mode) (encrypts : Bool) (way : Way) (keeps : Bool) (other : is_stream mode ≡ false) (ew : way ≡ way_of mode encrypts) (ek : keeps ≡ keeps_last mode encrypts) (key iv : List ℕ) where
   due_by : (text : List ℕ) → due_under mode encrypts key iv text ≡ processed way key iv (take (due_bytes keeps (length text)) text)
-  due_by text =
-      blocks_due mode encrypts key iv text other
-      ∙ ap₂ (λ (w : Way) (k : Bool). processed w key iv (take (due_bytes k (length text)) text)) (sym ew) (sym ek)
+  due_by text = search rules
 
   pub blocks_fresh : (chain text piece out : List ℕ) → take (due_bytes keeps (length (text ++ piece))) (text ++ piece) ≡ take (due_bytes keeps (length text)) text ++ out
       → (chains way ≡ true → length iv ≡ 16) → (chains way ≡ true → chain ≡ next_chain way key iv (take (due_bytes keeps (length text)) text))

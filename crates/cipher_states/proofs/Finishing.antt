@@ -1,28 +1,17 @@
 -- What a finish gives, by the state.
-use Rattle.std.proofs.Common.{Bool, List, [], ap, ap₂, arith, drop, false, if◌then◌else◌, length, not, refl, replicate, sym, take, true, ℕ, ◌%◌, ◌&&◌, ◌++◌, ◌+◌, ◌-◌, ◌<◌, ◌==◌, ◌∙◌, ◌≡◌}
-use Rattle.cipher_states.proofs.Common.{and_parts, Bytes, bytes_or_empty, CbcDecrypt, CbcPkcs7, chains, CipherWork, drop_all, due_bytes, ends, eqb-false, eqb-true, given, HoldsCipher, Inactive, InError, is_stream, is_whole_text, keeps_last, last_length, last_part, Mode, mode_of, model_mode, next_chain, not-true, Operation, pkcs7_padded, pkcs7_unpadded, processed, RunningCipher, Success, takes_text, Way, way_of, whole_text}
-use Rattle.std.proofs.lemmas.List.{length-drop, append-nil}
+use Rattle.std.proofs.lemmas.Grind.{common_steps}
+use Rattle.cipher_states.proofs.Common.{Bool, Bytes, CbcDecrypt, CbcPkcs7, CipherWork, HoldsCipher, InError, Inactive, List, Operation, RunningCipher, Success, Way, [], ap, ap₂, arith, bytes_or_empty, chains, drop, due_bytes, ends, eqb-false, false, given, if◌then◌else◌, is_stream, is_whole_text, keeps_last, last_length, last_part, length, length-drop, mode_of, model_mode, next_chain, not, pkcs7_padded, pkcs7_unpadded, processed, refl, replicate, rules, sym, take, takes_text, true, way_of, whole_text, ℕ, ◌%◌, ◌&&◌, ◌++◌, ◌+◌, ◌-◌, ◌<◌, ◌==◌, ◌∙◌, ◌≡◌}
 use Rattle.multipart.specs.Phases.{LeadsTo}
 use Rattle.multipart.specs.declared.Phase.{Phase}
 use Rattle.multipart.specs.declared.Phase.TheVariants as phase
-use Rattle.cipher_states.proofs.WayLaws.{length-next_chain}
-use Rattle.cipher_states.proofs.RunningTexts.{runs_blocks}
-use Rattle.cipher_states.proofs.LastParts.{end_at, end_is, is_whole_at, nothing_left, pkcs7_mode, padded_end, unpadded_end, unpadded_is}
+use Rattle.cipher_states.proofs.{WayLaws.length-next_chain, RunningTexts.runs_blocks, LastParts.end_at, LastParts.end_is, LastParts.nothing_left, LastParts.pkcs7_mode, LastParts.padded_end, LastParts.unpadded_end, LastParts.unpadded_is}
 
 pub not_none : (n : ℕ) → (n == 0) ≡ false → 0 < n
 not_none n e = let some = eqb-false n 0 e in omega arith
 
 -- a buffer that a block fills
 pub block_buffer : (block old : List ℕ) → length block ≡ 16 → length old ≡ 16 → block ≡ block ++ replicate (16 - length block) 0 ++ drop 16 old
-block_buffer block old e f =
-    let none : 16 - length block ≡ 0 = omega arith in
-    sym (append-nil block) ∙ sym (append-nil (block ++ []))
-    ∙ ap₂ (λ (n : ℕ) (l : List ℕ). block ++ replicate n 0 ++ l) (sym none) (sym (drop_all 16 old (omega arith)))
-
-whole_blocks_some : (n : ℕ) → (n % 16 == 0 && not (n == 0)) ≡ true → (n % 16 ≡ 0) × (0 < n)
-whole_blocks_some n e =
-    let both : ((n % 16 == 0) ≡ true) × (not (n == 0) ≡ true) = and_parts (n % 16 == 0) (not (n == 0)) e in
-    (eqb-true (n % 16) 0 both.0, not_none n (not-true (n == 0) both.1))
+block_buffer block old e f = grind (arith, common_steps)
 
 pub room_is : (s : RunningCipher) → 0 < last_length (model_mode s.mode) → last_length (model_mode s.mode) ≡ 16
 room_is s padded = ap last_length (pkcs7_mode (model_mode s.mode) padded)
@@ -71,14 +60,10 @@ module _ (s : RunningCipher) (w : CipherWork) (h : HoldsCipher s w) (ready : tak
       vector = (runs_blocks s w h ready no_stream).holds.vector chained
 
       chain_is : s.blocks.chain ≡ next_chain (way_of CbcPkcs7 b) s.key (bytes_or_empty w.iv) (take due w.text)
-      chain_is =
-          (runs_blocks s w h ready no_stream).holds.chain chained
-          ∙ ap₂ (λ (way : Way) (k : Bool). next_chain way s.key (bytes_or_empty w.iv) (take (due_bytes k (length w.text)) w.text)) way_is keeps_is
+      chain_is = search rules
 
       end_under : last_part w (whole_text w) ≡ end_at CbcPkcs7 b s.key (bytes_or_empty w.iv) w.text
-      end_under =
-          end_is w ∙ ap₂ (λ (m : Mode) (k : Bool). end_at m k w.key (bytes_or_empty w.iv) w.text) mode_is chosen
-          ∙ ap (λ (k : List ℕ). end_at CbcPkcs7 b k (bytes_or_empty w.iv) w.text) (sym h.key)
+      end_under = search rules
 
     module _ (encrypts : s.encrypts ≡ true) where
       pub part_kept : s.blocks.used < 16
@@ -91,10 +76,7 @@ module _ (s : RunningCipher) (w : CipherWork) (h : HoldsCipher s w) (ready : tak
 
     module _ (decrypts : s.encrypts ≡ false) (whole : is_whole_text w ≡ true) where
       pub block_kept : s.blocks.used ≡ 16
-      block_kept =
-          let n : ℕ = length w.text in
-          let some : (n % 16 ≡ 0) × (0 < n) = whole_blocks_some n (sym (ap₂ (λ (m : Mode) (k : Bool). is_whole_at m k n) mode_is (chosen false decrypts)) ∙ whole) in
-          omega (arith, count false decrypts, some.0, some.1)
+      block_kept = search rules
 
       pub ends_unpadded : last_part w (whole_text w) ≡ unpadded_end (pkcs7_unpadded (processed s.blocks.way s.key s.blocks.chain (take s.blocks.used s.blocks.kept)))
       ends_unpadded =

@@ -1,11 +1,7 @@
 -- What a finish gives.
-use Rattle.std.proofs.Common.{Bool, List, None, Option, Some, [], ap, append_assoc, ap₂, arith, cond, drop, false, is_some, length, not, refl, replicate, sym, take, true, ℕ, ◌%◌, ◌*◌, ◌++◌, ◌-◌, ◌/◌, ◌<◌, ◌==◌, ◌||◌, ◌∙◌, ◌≡◌}
-use Rattle.cipher_states.proofs.Common.{aes_decrypt, aes_encrypt, After, Bytes, bytes_or_empty, cbc_decrypt, cbc_encrypt, CbcDecrypt, CbcEncrypt, CbcNoPadding, CbcPkcs7, CipherWork, Ctr, deciphered, drop_all, due_bytes, ecb_decrypt, ecb_encrypt, EcbNoPadding, enciphered, ends, eqb-true, given, Inactive, InError, InvalidPadding, is_ciphertext_length, last_length, last_part, Mode, mode_of, next_chain, pkcs7_padded, pkcs7_unpadded, plain_or_zeros, processed, spoiled, Success, takes_whole_blocks, whole_text}
-use Rattle.std.specs.Option.{option_map}
-use Rattle.std.proofs.lemmas.List.{length-append, take_all, drop_at, take-append-drop}
-use Rattle.cipher_states.proofs.WayLaws.{processed_parts, length-processed}
-use Rattle.cipher_states.proofs.TextPlaces.{whole_front}
-use Rattle.cipher_states.proofs.Dues.{due_under}
+use Rattle.std.proofs.lemmas.Grind.{common_steps}
+use Rattle.cipher_states.proofs.Common.{After, Bool, Bytes, CbcDecrypt, CbcEncrypt, CbcPkcs7, CipherWork, InError, Inactive, InvalidPadding, List, Mode, None, Option, Some, Success, [], ap, arith, bytes_or_empty, cond, deciphered, drop, drop_at, due_bytes, enciphered, ends, false, given, is_ciphertext_length, is_some, last_length, last_part, length, mode_of, next_chain, not, option_map, pkcs7_padded, pkcs7_unpadded, plain_or_zeros, processed, refl, spoiled, sym, take, take-append-drop, takes_whole_blocks, true, whole_text, ℕ, ◌%◌, ◌*◌, ◌++◌, ◌-◌, ◌/◌, ◌<◌, ◌==◌, ◌||◌, ◌∙◌, ◌≡◌}
+use Rattle.cipher_states.proofs.{WayLaws.processed_parts, WayLaws.length-processed, TextPlaces.whole_front, Dues.due_under}
 use Rattle.cipher_modes.proofs.PaddedTexts.{unpadded_behind}
 
 -- ---- by mode, direction, key, initialisation vector and text
@@ -28,24 +24,9 @@ end_is w = refl
 
 -- ---- without padding nothing is left
 
-all_blocks : (text : List ℕ) → length text % 16 ≡ 0 → take (16 * (length text / 16)) text ≡ text
-all_blocks text whole = take_all (16 * (length text / 16)) text (omega arith)
-
-all_due : (m : Mode) (encrypts : Bool) (key iv text : List ℕ) → last_length m ≡ 0 → is_whole_at m encrypts (length text) ≡ true → whole_at m encrypts key iv text ≡ Some (due_under m encrypts key iv text)
-all_due Ctr true key iv text e h = refl
-all_due Ctr false key iv text e h = refl
-all_due CbcNoPadding true key iv text e h = ap (λ (l : List ℕ). Some (cbc_encrypt (aes_encrypt key) iv l)) (sym (all_blocks text (eqb-true (length text % 16) 0 h)))
-all_due CbcNoPadding false key iv text e h = ap (λ (l : List ℕ). Some (cbc_decrypt (aes_decrypt key) iv l)) (sym (all_blocks text (eqb-true (length text % 16) 0 h)))
-all_due CbcPkcs7 encrypts key iv text e h = absurd (omega arith)
-all_due EcbNoPadding true key iv text e h = ap (λ (l : List ℕ). Some (ecb_encrypt (aes_encrypt key) l)) (sym (all_blocks text (eqb-true (length text % 16) 0 h)))
-all_due EcbNoPadding false key iv text e h = ap (λ (l : List ℕ). Some (ecb_decrypt (aes_decrypt key) l)) (sym (all_blocks text (eqb-true (length text % 16) 0 h)))
-
 pub nothing_left : (m : Mode) (encrypts : Bool) (key iv text : List ℕ) → last_length m ≡ 0 → is_whole_at m encrypts (length text) ≡ true
     → end_at m encrypts key iv text ≡ ends (record { status = Success; output = Bytes []; needed = 0 })
-nothing_left m encrypts key iv text e h =
-    let due : List ℕ = due_under m encrypts key iv text in
-    ap (part_at m due) (all_due m encrypts key iv text e h)
-    ∙ ap₂ (λ (l : List ℕ) (n : ℕ). ends {W = CipherWork} (record { status = Success; output = Bytes l; needed = n })) (drop_all (length due) due (omega arith)) e
+nothing_left m encrypts key iv text e h = grind (arith, common_steps)
 
 -- ---- the last block, with its padding
 
@@ -56,9 +37,7 @@ pkcs7_mode m h = absurd (omega arith)
 -- whole blocks stay as they are
 padded_behind : (front last : List ℕ) → length front % 16 ≡ 0 → pkcs7_padded (front ++ last) ≡ front ++ pkcs7_padded last
 unfolding pkcs7_padded
-padded_behind front last whole =
-    let same : 16 - length (front ++ last) % 16 ≡ 16 - length last % 16 = omega (arith, length-append front last) in
-    ap (λ (p : ℕ). (front ++ last) ++ replicate p p) same ∙ append_assoc front last (replicate (16 - length last % 16) (16 - length last % 16))
+padded_behind front last whole = grind (arith, common_steps)
 
 pub padded_end : (key iv chain text last : List ℕ) → length iv ≡ 16 → last ≡ drop (due_bytes false (length text)) text → chain ≡ next_chain CbcEncrypt key iv (take (due_bytes false (length text)) text)
     → end_at CbcPkcs7 true key iv text ≡ ends (record (given (processed CbcEncrypt key chain (pkcs7_padded last))) { needed = 16 })

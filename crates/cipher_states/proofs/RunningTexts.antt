@@ -1,11 +1,8 @@
 -- What a RunningCipher stands for.
-use Rattle.std.proofs.Common.{Bool, List, MatchBool, None, Some, ap, arith, drop, false, length, nat_lt, refl, subst, sym, take, true, ℕ, ◌%◌, ◌++◌, ◌+◌, ◌<◌, ◌∙◌, ◌≡◌, ◌≤◌}
-use Rattle.cipher_states.proofs.Common.{aes_encrypt, block_number, BlockText, BufferTooSmall, bytes_or_empty, chains, cipher_fresh, cipher_update_rows, CipherWork, cond-false, cond-true, due_bytes, due_now, first_row, HoldsCipher, is_stream, IsAt, keeps_last, le-ltb, length-text_xor, lt-ltb, MatchBool-at_false, MatchBool-at_true, Mode, mode_of, model_mode, processed, room_rows, RunningCipher, RunsBlocks, takes_text, text_xor, total_limit, way_of, Whole, with_text}
+use Rattle.std.proofs.lemmas.Grind.{common_steps}
+use Rattle.cipher_states.proofs.Common.{BlockText, Bool, BufferTooSmall, CipherWork, HoldsCipher, IsAt, List, MatchBool, Mode, None, RunningCipher, RunsBlocks, Some, Whole, aes_encrypt, ap, arith, block_number, bytes_or_empty, chains, cipher_fresh, cipher_update_rows, cond-false, cond-true, drop, due_bytes, due_now, false, first_row, is_stream, keeps_last, le-ltb, length, length-take, length-text_xor, lt-ltb, mode_of, model_mode, processed, refl, room_rows, rules, subst, sym, take, take-append-drop, takes_text, text_xor, total_limit, true, way_of, with_text, ℕ, ◌%◌, ◌++◌, ◌+◌, ◌<◌, ◌∙◌, ◌≡◌, ◌≤◌}
 use Rattle.aead_streams.specs.declared.key_stream.KeyStream.{KeyStream}
-use Rattle.std.proofs.lemmas.List.{length-append, length-take, length-drop, take-append-drop}
-use Rattle.cipher_states.proofs.WayLaws.{length-processed, length-next_chain}
-use Rattle.cipher_states.proofs.TextPlaces.{due-whole, due-within, further_front}
-use Rattle.cipher_states.proofs.Dues.{stream_fresh, blocks_fresh}
+use Rattle.cipher_states.proofs.{WayLaws.length-processed, WayLaws.length-next_chain, TextPlaces.due-whole, TextPlaces.due-within, TextPlaces.further_front, Dues.stream_fresh, Dues.blocks_fresh}
 
 -- ---- by the mode
 
@@ -26,14 +23,10 @@ module _ (m : Mode) (stream : KeyStream) (blocks : BlockText) (w : CipherWork) w
 
 module _ (s : RunningCipher) (w : CipherWork) (h : HoldsCipher s w) (ready : takes_text w ≡ true) where
   pub runs_stream : is_stream (model_mode s.mode) ≡ true → RunsStream (mode_of w.alg) s.stream s.blocks w s.key
-  runs_stream e =
-      subst (RunsStream (mode_of w.alg) s.stream s.blocks w) (sym h.key)
-      (MatchBool-at_true (RunsStream (mode_of w.alg) s.stream s.blocks w w.key) (RunsText (mode_of w.alg) s.stream s.blocks w w.key) (ap is_stream (sym h.mode) ∙ e) (h.text ready))
+  runs_stream e = search rules
 
   pub runs_blocks : is_stream (model_mode s.mode) ≡ false → RunsText (mode_of w.alg) s.stream s.blocks w s.key
-  runs_blocks e =
-      subst (RunsText (mode_of w.alg) s.stream s.blocks w) (sym h.key)
-      (MatchBool-at_false (RunsStream (mode_of w.alg) s.stream s.blocks w w.key) (RunsText (mode_of w.alg) s.stream s.blocks w w.key) (ap is_stream (sym h.mode) ∙ e) (h.text ready))
+  runs_blocks e = search rules
 
   pub fresh_stream : is_stream (model_mode s.mode) ≡ true → (input : List ℕ) → cipher_fresh w (with_text w input) ≡ text_xor (aes_encrypt s.key) Whole (block_number (bytes_or_empty w.iv)) (length w.text) input
   fresh_stream e input =
@@ -42,10 +35,7 @@ module _ (s : RunningCipher) (w : CipherWork) (h : HoldsCipher s w) (ready : tak
 
   -- the bytes that are kept, and the piece
   pub waiting-length : is_stream (model_mode s.mode) ≡ false → (input : List ℕ) → length (take s.blocks.used s.blocks.kept ++ input) ≡ s.blocks.used + length input
-  waiting-length e input =
-      let t = (runs_blocks e).holds in
-      let d : ℕ = due_bytes s.blocks.keeps_last (length w.text) in
-      omega (arith, t.used, ap length t.kept, length-drop d w.text, length-append (take s.blocks.used s.blocks.kept) input)
+  waiting-length e input = grind (arith, common_steps)
 
   pub fresh_blocks : is_stream (model_mode s.mode) ≡ false → (input : List ℕ)
       → cipher_fresh w (with_text w input) ≡ processed s.blocks.way s.key s.blocks.chain (take (due_bytes s.blocks.keeps_last (s.blocks.used + length input)) (take s.blocks.used s.blocks.kept ++ input))
@@ -82,9 +72,7 @@ module _ (s : RunningCipher) (w : CipherWork) (h : HoldsCipher s w) (ready : tak
 
 pub update_rows : (w : CipherWork) (input : List ℕ) (room n : ℕ) → takes_text w ≡ true → length w.text + length input ≤ total_limit → length (cipher_fresh w (with_text w input)) ≡ n
     → first_row (cipher_update_rows w input room) ≡ first_row (room_rows n room)
-update_rows w input room n ready fits size =
-    let within : nat_lt total_limit (length w.text + length input) ≡ false = le-ltb total_limit (length w.text + length input) fits in
-    rw (ready, within, size) refl
+update_rows w input room n ready fits size = search rules
 
 pub no_room : (n room : ℕ) → room < n → first_row (room_rows n room) ≡ Some BufferTooSmall
 no_room n room h = rw (lt-ltb room n h) refl

@@ -1,7 +1,6 @@
 -- What a BlockText stands for, at its start and after a further piece.
-use Rattle.std.proofs.Common.{Bool, List, [], ap, append_assoc, ap₂, arith, drop, false, length, refl, sym, take, true, ℕ, ◌%◌, ◌++◌, ◌+◌, ◌∙◌, ◌≡◌, ◌≤◌}
-use Rattle.cipher_states.proofs.Common.{blocks, BlockText, cbc_blocks, cbc_encrypt, CbcDecrypt, CbcEncrypt, chains, due_bytes, HoldsBlockText, next_chain, Way}
-use Rattle.std.proofs.lemmas.List.{length-append, length-take, take_at, drop_at, append-nil, take-append-drop, length-take-le}
+use Rattle.std.proofs.lemmas.Grind.{common_steps}
+use Rattle.cipher_states.proofs.Common.{BlockText, Bool, CbcDecrypt, CbcEncrypt, HoldsBlockText, List, Way, [], ap, append-nil, append_assoc, ap₂, arith, blocks, cbc_blocks, cbc_encrypt, chains, drop, drop_at, due_bytes, false, length, length-append, length-take-le, next_chain, refl, sym, take, take-append-drop, take_at, true, ℕ, ◌%◌, ◌++◌, ◌+◌, ◌∙◌, ◌≡◌, ◌≤◌}
 use Rattle.cipher_states.proofs.WayLaws.{next_chain_parts}
 
 -- ---- how much is due
@@ -64,10 +63,7 @@ module _ (s : BlockText) (key iv text piece : List ℕ) (h : HoldsBlockText s ke
   -- what becomes due, and what is kept then
   module _ (out rest : List ℕ) (size : length out ≡ due_bytes s.keeps_last (s.used + length piece)) (cut : out ++ rest ≡ take s.used s.kept ++ piece) where
     front_length : length (take (due_bytes s.keeps_last (length text)) text ++ out) ≡ due_bytes s.keeps_last (length (text ++ piece))
-    front_length =
-        let d : ℕ = due_bytes s.keeps_last (length text) in
-        let within : d ≤ length text = due-within s.keeps_last (length text) in
-        omega (arith, length-append (take d text) out, length-take d text, further_count)
+    front_length = grind (arith, common_steps)
 
     whole : text ++ piece ≡ (take (due_bytes s.keeps_last (length text)) text ++ out) ++ rest
     whole =

@@ -1,7 +1,5 @@
 -- What the ways make of a text in two parts.
-use Rattle.std.proofs.Common.{List, ap, ap₂, arith, length, map, refl, sym, true, ℕ, ◌%◌, ◌++◌, ◌/◌, ◌∙◌, ◌≡◌}
-use Rattle.cipher_states.proofs.Common.{CbcDecrypt, CbcEncrypt, EcbDecrypt, EcbEncrypt, Way, aes_decrypt, aes_encrypt, blocks, cbc_blocks, cbc_decrypt, cbc_encrypt, cbc_plain_blocks, chains, ecb_decrypt, ecb_encrypt, last_ciphertext_block, map-append, next_chain, processed}
-use Rattle.std.proofs.lemmas.List.{length-append, length-drop}
+use Rattle.cipher_states.proofs.Common.{CbcDecrypt, CbcEncrypt, EcbDecrypt, EcbEncrypt, List, Way, aes_decrypt, aes_encrypt, ap, ap₂, arith, blocks, cbc_blocks, cbc_decrypt, cbc_encrypt, cbc_plain_blocks, chains, ecb_decrypt, ecb_encrypt, last_ciphertext_block, length, length-append, length-drop, map, map-append, next_chain, processed, refl, sym, true, ℕ, ◌%◌, ◌++◌, ◌/◌, ◌∙◌, ◌≡◌}
 use Rattle.cipher_states.proofs.BlockLaws.{EachLong, blocks-long, blocks_joined, by_blocks, cbc-long, cbc_on, cbc_plain-long, cbc_plain_on, ecb-long, last_joined, last_of, last_twice, length-by_blocks, two_parts}
 
 encrypted-long : (key b : List ℕ) → length (aes_encrypt key b) ≡ 16

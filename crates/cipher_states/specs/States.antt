@@ -1,11 +1,11 @@
 -- What a cipher in several parts stands for.
-use Rattle.std.specs.Prelude.{◌≡◌, ℕ, ◌+◌, MatchBool, true, false, [], length, is_some, if◌then◌else◌}
+use Rattle.std.specs.Prelude.{◌≡◌, ℕ, ◌+◌, MatchBool, IfSome, true, false, [], length, is_some, if◌then◌else◌}
 use Rattle.crypto_specs.specs.Prelude.{aes_encrypt, block_number}
 use Rattle.aead_streams.specs.declared.counter_width.CounterWidth.TheVariants.{Whole}
 use Rattle.aead_streams.specs.Streams.{IsAt, IsClearStream}
 use Rattle.store_model.specs.Prelude.{Mode, mode_of, CipherWork, bytes_or_empty, takes_text, Operation}
 use Rattle.key_policy.specs.Modes.{model_mode}
-use Rattle.multipart.specs.States.{StandsForOperation}
+use Rattle.multipart.specs.States.{StandsForOptional}
 use Rattle.cipher_states.specs.declared.running.RunningCipher.{RunningCipher}
 use Rattle.cipher_states.specs.declared.state.CipherState.{CipherState}
 use Rattle.cipher_states.specs.Modes.{due_bytes, is_stream, keeps_last}
@@ -35,11 +35,11 @@ pub record IsClearRunningCipher (s : RunningCipher) : Type 0 where
   pub blocks : IsClearText s.blocks
 
 abbrev pub IsClearCipher : CipherState → Type 0
-IsClearCipher s = IsClearRunningCipher s.state.work
+IsClearCipher s = IfSome s.state.work IsClearRunningCipher
 
 -- the state stands for this operation
 abbrev pub IsCipherOperation : CipherState → Operation CipherWork → Type 0
-IsCipherOperation s op = StandsForOperation IsClearRunningCipher HoldsCipher s.state op
+IsCipherOperation s op = StandsForOptional IsClearRunningCipher HoldsCipher s.state op
 
 -- how many bytes of output so many bytes of input give
 abbrev pub due_now : RunningCipher → ℕ → ℕ

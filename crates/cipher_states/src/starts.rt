@@ -30,23 +30,6 @@ fn keeps_last(mode: Mode, encrypts: bool) -> bool
 }
 
 impl RunningCipher {
-    /// One without key and text.
-    pub(crate) fn clear() -> RunningCipher
-        ensures { IsClearRunningCipher result }
-    {
-        let mut key = aes_key(&[0; 16]);
-        key.wipe();
-        RunningCipher {
-            encrypts: false,
-            mode: Mode::Ctr,
-            key,
-            has_iv: false,
-            total: 0,
-            stream: KeyStream::clear(),
-            blocks: BlockText::clear(),
-        }
-    }
-
     // Begins the text from an initialisation vector.
     fn begin_text(&mut self, iv: &[u8; 16])
         ensures encrypts { self.new.encrypts ≡ self.old.encrypts }
@@ -65,18 +48,23 @@ impl RunningCipher {
         self.blocks = BlockText::new(way, keeps_last(self.mode, self.encrypts), iv);
     }
 
-    /// Begins with the empty text under this key. Where the mode has an initialisation vector, that comes next.
-    pub(crate) fn start(&mut self, encrypts: bool, mode: Mode, key: &[u8])
+    /// The empty text under this key. Where the mode has an initialisation vector, that comes next.
+    pub(crate) fn begun(encrypts: bool, mode: Mode, key: &[u8]) -> RunningCipher
         requires { IsKey key.now }
-        ensures key { IsKey self.new.key }
-        ensures holds { (alg : ℕ) → NamesMode alg mode → HoldsCipher self.new (cipher_work encrypts alg key.now) }
+        ensures key { IsKey result.key }
+        ensures holds { (alg : ℕ) → NamesMode alg mode → HoldsCipher result (cipher_work encrypts alg key.now) }
     {
-        self.encrypts = encrypts;
-        self.mode = mode;
-        self.key = aes_key(key);
-        self.has_iv = false;
-        self.total = 0;
-        self.begin_text(&[0; 16]);
+        let mut begun = RunningCipher {
+            encrypts,
+            mode,
+            key: aes_key(key),
+            has_iv: false,
+            total: 0,
+            stream: KeyStream::clear(),
+            blocks: BlockText::clear(),
+        };
+        begun.begin_text(&[0; 16]);
+        begun
     }
 
     // Takes the initialisation vector.

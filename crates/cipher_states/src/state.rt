@@ -1,5 +1,6 @@
 // A cipher in several parts.
 ghost use Rattle.std.specs.Prelude.{◌≡◌, IsTrue, true, false};
+ghost use Rattle.std.specs.Option.{ForSome};
 ghost use Rattle.crypto_specs.specs.Prelude.{IsKey};
 ghost use Rattle.service_calls.specs.Answers.{plain_reply};
 ghost use Rattle.service_calls.specs.Meanings.{model_cipher_step};
@@ -22,8 +23,8 @@ use service_calls::{CipherStep, Output};
 /// updates, and a finish.
 #[derive(Drop)]
 pub struct CipherState {
-    pub(crate) state: OperationState<RunningCipher>,
-    ghost keyed: { state.phase ≡ phases.Active → IsTrue (is_key state.work.key) },
+    pub(crate) state: OperationState<Option<RunningCipher>>,
+    ghost keyed: { state.phase ≡ phases.Active → ForSome state.work (λ work. IsTrue (is_key work.key)) },
 }
 
 impl CipherState {
@@ -34,7 +35,7 @@ impl CipherState {
         ensures { IsCipherOperation result Inactive }
     {
         CipherState {
-            state: OperationState::new(RunningCipher::clear()),
+            state: OperationState::new(None),
         }
     }
 
@@ -70,7 +71,7 @@ impl CipherState {
     {
         self.state.phase.check_inactive()?;
         let mode = alg.cipher()?;
-        self.state.work.start(encrypts, mode, key);
+        self.state.work = Some(RunningCipher::begun(encrypts, mode, key));
         self.state.phase = Phase::Active;
         Ok(())
     }
@@ -119,7 +120,7 @@ impl<'a> Family<CipherStep<'a>> for CipherState {
     }
 
     fn takes_random(step: &CipherStep<'a>) -> bool {
-        RunningCipher::takes_random(step)
+        <Option<RunningCipher>>::takes_random(step)
     }
 
     fn draws(&self, step: &CipherStep<'a>, room: usize) -> usize {

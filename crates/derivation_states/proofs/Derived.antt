@@ -1,9 +1,9 @@
 -- The bytes of a derivation, block by block.
-use Rattle.std.proofs.Common.{List, [], add-one, ap, ap₂, arith, drop, get_or, inl, inr, length, refl, suc, sym, take, zero, ℕ, ◌*◌, ◌++◌, ◌+◌, ◌-◌, ◌/◌, ◌<◌, ◌∙◌, ◌∷◌, ◌≡◌, ◌≤◌}
+use Rattle.std.proofs.Common.{List, [], add-one, ap, ap₂, arith, drop, inl, inr, length, refl, suc, sym, take, zero, ℕ, ◌*◌, ◌++◌, ◌+◌, ◌-◌, ◌/◌, ◌∙◌, ◌≡◌, ◌≤◌}
 use Rattle.derivation_states.proofs.Common.{block_at, bytes_or_empty, cases_Bool, cond-false, cond-true, DerivationWork, derived, div-mul-le_self, drop-append-le, expand, expand_blocks, hash_length, is_hkdf, length-drop, length-take, mul-suc, next_derived, number_or_zero, pbkdf2, pbkdf2_blocks, take-append-drop, without, work_block_length, work_hash}
 use Rattle.std.proofs.lemmas.Nat.{le-div}
 use Rattle.multipart.specs.Dues.{DueGrows}
-use Rattle.derivation_states.proofs.Joined.{joined, joined_is, front_begins, length-joined, front, one_byte}
+use Rattle.derivation_states.proofs.Joined.{joined, joined_is, front_begins, length-joined, front, piece}
 use Rattle.derivation_states.proofs.Blocks.{HasBlocks, block_of_hkdf, block_of_pbkdf2, by_hkdf, by_pbkdf2, length-block_at, prk_of}
 
 -- the least number of blocks that have n bytes
@@ -73,8 +73,7 @@ module _ (w : DerivationWork) (h : ℕ) (blocks : HasBlocks w h) where
       ap (λ (j : ℕ). drop t (derived w j)) place ∙ ap (drop t) parts
       ∙ drop-append-le t (derived w (t + n)) (drop (t + n) all) (omega (arith, length-derived (t + n)))
 
-  -- the next byte is of the current block
-  pub next_byte : (i used : ℕ) → w.taken ≡ h * i + used → used < h → next_derived w 1 ≡ get_or (block_at w (suc i)) used 0 ∷ []
-  next_byte i used place l =
-      let t : ℕ = w.taken in
-      ap (drop t) (derived_front (t + 1) (suc i) (omega (arith, mul-suc h i))) ∙ one_byte (block_at w) h (length-block_at w h blocks) t i used place l
+  -- the next bytes are of the current block
+  pub next_piece : (i used n : ℕ) → w.taken ≡ h * i + used → used + n ≤ h → next_derived w n ≡ take n (drop used (block_at w (suc i)))
+  next_piece i used n place l =
+      ap (drop w.taken) (derived_front (w.taken + n) (suc i) (omega (arith, mul-suc h i))) ∙ piece (block_at w) h (length-block_at w h blocks) w.taken i used n place

@@ -1,7 +1,7 @@
 -- Blocks joined, of one length and of any.
-use Rattle.std.proofs.Common.{List, [], ap, append_assoc, ap₂, arith, drop, get_or, length, min, suc, sym, take, zero, ℕ, ◌*◌, ◌++◌, ◌+◌, ◌<◌, ◌∙◌, ◌∷◌, ◌≡◌, ◌≤◌}
+use Rattle.std.proofs.Common.{List, [], ap, append_assoc, ap₂, arith, drop, length, min, suc, sym, take, zero, ℕ, ◌*◌, ◌++◌, ◌+◌, ◌∙◌, ◌≡◌, ◌≤◌}
 use Rattle.derivation_states.proofs.Common.{append-nil, drop-take, length-append, length-take, mul-suc, take-append-le, take-take, take_min}
-use Rattle.std.proofs.Math.Seq.{drop-append-add, drop-cons}
+use Rattle.std.proofs.Math.Seq.{drop-append-add}
 
 -- the blocks 1 to m
 abbrev pub joined : (ℕ → List ℕ) → ℕ → List ℕ
@@ -43,12 +43,11 @@ module _ (f : ℕ → List ℕ) (h : ℕ) (long : (i : ℕ) → length (f (suc i
       let e : m + k ≡ k + m = omega arith in
       sym (more n m k lm) ∙ ap (λ (i : ℕ). take n (joined f i)) e ∙ more n k m lk
 
-  -- one byte, of block i + 1
-  pub one_byte : (t i used : ℕ) → t ≡ h * i + used → used < h → drop t (take (t + 1) (joined f (suc i))) ≡ get_or (f (suc i)) used 0 ∷ []
-  one_byte t i used place l =
+  -- some bytes of block i + 1
+  pub piece : (t i used n : ℕ) → t ≡ h * i + used → drop t (take (t + n) (joined f (suc i))) ≡ take n (drop used (f (suc i)))
+  piece t i used n place =
       let block : List ℕ = f (suc i) in
       let before : List ℕ = joined f i in
       let start : t ≡ length before + used = omega (arith, length-joined i) in
-      let short : used < length block = omega (arith, long i) in
-      drop-take t 1 (before ++ block) ∙ ap (λ (n : ℕ). take 1 (drop n (before ++ block))) start
-      ∙ ap (take 1) (drop-append-add before block used ∙ drop-cons block used 0 short)
+      drop-take t n (before ++ block) ∙ ap (λ (k : ℕ). take n (drop k (before ++ block))) start
+      ∙ ap (take n) (drop-append-add before block used)

@@ -1,11 +1,11 @@
 -- The current block's next byte.
-use Rattle.std.proofs.Common.{List, None, Option, Some, [], ap, ap₂, arith, get_or, is_some, length, refl, slice_index_or, suc, sym, take, true, zero, ℕ, ◌*◌, ◌++◌, ◌+◌, ◌-◌, ◌<◌, ◌∙◌, ◌∷◌, ◌≡◌, ◌≤◌}
-use Rattle.derivation_states.proofs.Common.{block_at, DerivationWork, digest_length, ForSome, get_or-take, HasSecret, HoldsInputs, Inputs, IsRunning, KeyDerivation, mul-suc, NamesDerivation, next_derived, nil_from_length, number_or_zero, OutputState, without}
+use Rattle.std.proofs.Common.{List, None, Option, Some, [], ap, ap₂, arith, drop, is_some, length, refl, suc, sym, take, true, zero, ℕ, ◌*◌, ◌++◌, ◌+◌, ◌-◌, ◌<◌, ◌∙◌, ◌≡◌, ◌≤◌}
+use Rattle.derivation_states.proofs.Common.{block_at, DerivationWork, digest_length, ForSome, drop-take, take-take, HasSecret, HoldsInputs, Inputs, IsRunning, KeyDerivation, mul-suc, NamesDerivation, next_derived, nil_from_length, number_or_zero, OutputState, without}
 use Rattle.hash_ops.specs.declared.Hash.{Hash}
 use Rattle.hash_ops.specs.declared.Hash.TheVariants.{Sha224}
 use Rattle.hash_ops.proofs.Digests.{length-hash_of}
 use Rattle.derivation_states.proofs.Blocks.{HasBlocks}
-use Rattle.derivation_states.proofs.Derived.{next_byte, next_derived_add, length-next_derived}
+use Rattle.derivation_states.proofs.Derived.{next_piece, next_derived_add, length-next_derived}
 
 some_digest : (which : Hash) → 1 ≤ digest_length which
 some_digest Sha224 = omega arith
@@ -22,18 +22,22 @@ has_blocks k i w kdf inputs secret = record {
   turns = λ e. some_turns i.cost w.cost inputs.cost (inputs.costed e secret) i.some_turns;
 }
 
--- a block that has bytes left isn't block 0, and its next one is the next of all
-placed : (h : ℕ) (o : OutputState) (w : DerivationWork) → digest_length o.kdf.hash ≡ h → HasBlocks w h → IsRunning o w → o.used < o.length → (n : ℕ) → o.number ≡ n → next_derived w 1 ≡ slice_index_or o.block o.used 0 ∷ []
-placed h o w eh blocks running left zero e = absurd (omega (arith, running.none e))
-placed h o w eh blocks running left (suc i) e =
+-- a block that has bytes left isn't block 0, and its next ones are the next of all
+placed : (h : ℕ) (o : OutputState) (w : DerivationWork) (k : ℕ) → digest_length o.kdf.hash ≡ h → HasBlocks w h → IsRunning o w → o.used < o.length → o.used + k ≤ o.length → (n : ℕ) → o.number ≡ n → next_derived w k ≡ take k (drop o.used o.block)
+placed h o w k eh blocks running left within zero e = absurd (omega (arith, running.none e))
+placed h o w k eh blocks running left within (suc i) e =
     let whole : o.length ≡ h = running.whole (omega arith) ∙ eh in
     let before : digest_length o.kdf.hash * o.number ≡ h * i + h = ap₂ (λ (a b : ℕ). a * b) eh e ∙ mul-suc h i in
     let block : take o.length o.block ≡ block_at w (suc i) = running.block ∙ ap (block_at w) e in
-    next_byte w h blocks i o.used (omega (arith, running.place)) (omega arith)
-    ∙ ap (λ (b : ℕ). b ∷ []) (sym (ap (λ (l : List ℕ). get_or l o.used 0) block) ∙ get_or-take o.length o.block o.used 0 left)
+    let rest : o.used + (o.length - o.used) ≡ o.length = omega arith in
+    next_piece w h blocks i o.used k (omega (arith, running.place)) (omega arith)
+    ∙ ap (λ (l : List ℕ). take k (drop o.used l)) (sym block)
+    ∙ ap (λ (m : ℕ). take k (drop o.used (take m o.block))) (sym rest)
+    ∙ ap (take k) (drop-take o.used (o.length - o.used) o.block)
+    ∙ take-take k (o.length - o.used) (drop o.used o.block) (omega arith)
 
-pub byte_taken : (i : Inputs) (o : OutputState) (w : DerivationWork) → HoldsInputs i w → IsRunning o w → is_some w.secret ≡ true → o.used < o.length → next_derived w 1 ≡ slice_index_or o.block o.used 0 ∷ []
-byte_taken i o w inputs running secret left = placed (digest_length o.kdf.hash) o w refl (has_blocks o.kdf i w running.kdf inputs secret) running left o.number refl
+pub piece_taken : (i : Inputs) (o : OutputState) (w : DerivationWork) (k : ℕ) → HoldsInputs i w → IsRunning o w → is_some w.secret ≡ true → o.used < o.length → o.used + k ≤ o.length → next_derived w k ≡ take k (drop o.used o.block)
+piece_taken i o w k inputs running secret left within = placed (digest_length o.kdf.hash) o w k refl (has_blocks o.kdf i w running.kdf inputs secret) running left within o.number refl
 
 module _ (i : Inputs) (o : OutputState) (w : DerivationWork) (r : HasSecret i o w) where
   pub ready_blocks : HasBlocks w (digest_length o.kdf.hash)
@@ -45,9 +49,9 @@ module _ (i : Inputs) (o : OutputState) (w : DerivationWork) (r : HasSecret i o 
   pub none_taken : next_derived w 0 ≡ []
   none_taken = nil_from_length (next_derived w 0) (length-given 0)
 
-  -- so many bytes, and then one more
-  pub one_more : (n byte : ℕ) (front : List ℕ) → front ≡ next_derived w n → next_derived (without w n) 1 ≡ byte ∷ [] → front ++ byte ∷ [] ≡ next_derived w (n + 1)
-  one_more n byte front before next = ap₂ (λ (xs ys : List ℕ). xs ++ ys) before (sym next) ∙ sym (next_derived_add w (digest_length o.kdf.hash) ready_blocks n 1)
+  -- so many bytes, and then some more
+  pub some_more : (n k : ℕ) (front piece : List ℕ) → front ≡ next_derived w n → next_derived (without w n) k ≡ piece → front ++ piece ≡ next_derived w (n + k)
+  some_more n k front piece before next = ap₂ (λ (xs ys : List ℕ). xs ++ ys) before (sym next) ∙ sym (next_derived_add w (digest_length o.kdf.hash) ready_blocks n k)
 
 pub without_twice : (w : DerivationWork) (n k : ℕ) → without (without w n) k ≡ without w (n + k)
 without_twice w n k =

@@ -1,5 +1,5 @@
 -- What the output of a derivation stands for: the bytes that follow those that were taken.
-use Rattle.std.specs.Prelude.{◌≡◌, ◌+◌, ◌*◌, ◌≤◌, false, true, is_some, take, replicate}
+use Rattle.std.specs.Prelude.{◌≡◌, ◌+◌, ◌*◌, ◌-◌, ◌≤◌, ℕ, List, false, true, is_some, drop, take, replicate}
 use Rattle.hash_ops.specs.Hashes.{digest_length}
 use Rattle.store_model.specs.Prelude.{DerivationWork}
 use Rattle.derivation_states.specs.Streams.{block_at}
@@ -35,3 +35,7 @@ pub record HasSecret (i : Inputs) (o : OutputState) (w : DerivationWork) : Type 
   pub inputs : HoldsInputs i w
   pub output : HoldsOutput o w
   pub secret : is_some w.secret ≡ true
+
+-- the last bytes that were taken of the current block
+abbrev pub last_taken : OutputState → ℕ → List ℕ
+last_taken o count = take count (drop (o.used - count) o.block)

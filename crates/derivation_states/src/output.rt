@@ -16,6 +16,7 @@ use crate::inputs::Inputs;
 use hash_ops::Hash;
 use kdf_core::{hkdf_block, pbkdf2_block};
 use key_policy::{KeyDerivation, Scheme};
+use multipart::is_equal;
 use psa_status::Status;
 
 /// The bytes that can still be had, `capacity` of them. The current block is the one that the last byte was taken
@@ -35,7 +36,7 @@ pub struct OutputState {
 }
 
 impl OutputState {
-    ghost use Rattle.derivation_states.specs.Outputs.{HoldsOutput, IsClearOutput, HasSecret, IsRunning};
+    ghost use Rattle.derivation_states.specs.Outputs.{HoldsOutput, IsClearOutput, HasSecret, IsRunning, last_taken};
 
     /// No bytes.
     pub fn new() -> OutputState
@@ -152,20 +153,23 @@ impl OutputState {
         }
     }
 
-    // Takes the next byte.
-    fn take_byte(&mut self, inputs: &Inputs) -> u8
-        requires { 0 < self.old.capacity }
-        ensures capacity { self.new.capacity + 1 ≡ self.old.capacity }
-        ensures ready { (w : DerivationWork) → HoldsInputs inputs.now w → IsRunning self.old w
-            → is_some w.secret ≡ true → HasSecret inputs.now self.new (without w 1) }
-        ensures byte { (w : DerivationWork) → HoldsInputs inputs.now w → IsRunning self.old w
-            → is_some w.secret ≡ true → next_derived w 1 ≡ result ∷ [] }
+    // Takes what is left of the current block, or the next one where nothing is, but no more than `most` bytes, and answers
+    // how many these are: the last ones that are taken of the block.
+    fn take_piece(&mut self, inputs: &Inputs, most: usize) -> usize
+        requires some { 1 ≤ most }
+        requires enough { most ≤ self.old.capacity }
+        ensures some { 1 ≤ result }
+        ensures most { result ≤ most }
+        ensures taken { result ≤ self.new.used }
+        ensures capacity { self.new.capacity + result ≡ self.old.capacity }
+        ensures holds { (w : DerivationWork) → HasSecret inputs.now self.old w → HasSecret inputs.now self.new (without w result) }
+        ensures bytes { (w : DerivationWork) → HasSecret inputs.now self.old w → next_derived w result ≡ last_taken self.new result }
     {
         self.make_ready(inputs);
-        let byte = self.block[self.used];
-        self.used += 1;
-        self.capacity -= 1;
-        byte
+        let count = most.min(self.length - self.used);
+        self.used += count;
+        self.capacity -= count as u64;
+        count
     }
 
     /// Takes as many bytes as `out` has, into it.
@@ -175,8 +179,12 @@ impl OutputState {
         ensures holds { (w : DerivationWork) → HasSecret inputs.now self.old w → HasSecret inputs.now self.new (without w (length out.old)) }
         ensures bytes { (w : DerivationWork) → HasSecret inputs.now self.old w → out.new ≡ next_derived w (length out.old) }
     {
-        'bytes: for i in 0..out.len() {
-            out[i] = self.take_byte(inputs);
+        let mut filled = 0;
+        'pieces: while filled < out.len() {
+            let count = self.take_piece(inputs, out.len() - filled);
+            let piece = &self.block[self.used - count..self.used];
+            out[filled..filled + count].copy_from_slice(piece);
+            filled += count;
         }
     }
 
@@ -185,8 +193,9 @@ impl OutputState {
         requires { count ≤ self.old.capacity }
         ensures { (w : DerivationWork) → HasSecret inputs.now self.old w → HasSecret inputs.now self.new (without w count) }
     {
-        'bytes: for _ in 0..count {
-            self.take_byte(inputs);
+        let mut skipped = 0;
+        'pieces: while skipped < count {
+            skipped += self.take_piece(inputs, count - skipped);
         }
     }
 
@@ -213,9 +222,13 @@ impl OutputState {
         ensures same { (w : DerivationWork) → HasSecret inputs.now self.old w → result ≡ bytes_eq expected.now (next_derived w (length expected.now)) }
     {
         let mut same = true;
-        'bytes: for i in 0..expected.len() {
-            let byte = self.take_byte(inputs);
-            same &= expected[i] == byte;
+        let mut compared = 0;
+        'pieces: while compared < expected.len() {
+            let count = self.take_piece(inputs, expected.len() - compared);
+            let next = compared + count;
+            let piece = &self.block[self.used - count..self.used];
+            same &= is_equal(&expected[compared..next], piece);
+            compared = next;
         }
         same
     }

@@ -1,13 +1,13 @@
 -- What the table of algorithms says of the algorithm that a number names.
-use Rattle.std.proofs.Common.{Bool, IfSome, List, None, Option, Some, ap, arith, cond, false, is_some, leb, not, refl, subst, sym, true, ℕ, ◌%◌, ◌&&◌, ◌/◌, ◌==◌, ◌^◌, ◌||◌, ◌∙◌, ◌≡◌, ◌≤◌}
+use Rattle.std.proofs.Common.{Bool, inl, inr, IfSome, List, None, Option, Some, ap, arith, cond, false, is_some, leb, not, refl, subst, sym, true, ℕ, ◌%◌, ◌&&◌, ◌+◌, ◌/◌, ◌==◌, ◌^◌, ◌||◌, ◌∙◌, ◌≡◌, ◌≤◌}
 use Rattle.key_policy.proofs.Common.{Class, algorithm_at, algorithm_of, base_of, class_in, class_number, class_of, cmac_base, digest, entry_of, hash_block_length, is_concrete, is_hmac, is_hmac_in, lengths_of, low_byte, mode_of, tag_length_of, whole_mac}
 use Rattle.std.specs.Option.{option_map, option_map_or}
-use Rattle.std.proofs.lemmas.Bool.{and_parts, eqb-true, eq-eqb, leb-true, not-true}
+use Rattle.std.proofs.lemmas.Bool.{and_parts, both_ways, cases_Bool, eqb-true, eq-eqb, leb-true, not-true, or_right}
 use Rattle.alg_encoding.specs.declared.table.Base.{Base}
 use Rattle.alg_encoding.specs.declared.table.Class.TheVariants as class
 use Rattle.alg_encoding.specs.declared.table.Lengths.{Lengths}
 use Rattle.alg_encoding.specs.declared.table.Lengths.TheVariants as lengths
-use Rattle.alg_encoding.specs.Table.{has_length, permits_length, named_hash_length}
+use Rattle.alg_encoding.specs.Table.{has_length, base_at, permits_length, named_hash_length}
 use Rattle.alg_encoding.proofs.Facts.{entry_of-all, base_of-low, tag_length_of-permitted}
 use Rattle.crypto_specs.specs.Prelude.{aes_encrypt, cmac, hmac}
 use Rattle.hash_ops.specs.declared.Hash.{Hash}
@@ -24,6 +24,7 @@ use Rattle.key_policy.specs.declared.algorithms.MacKind.{MacKind}
 use Rattle.key_policy.specs.declared.algorithms.MacKind.TheVariants.{Hmac, Cmac}
 use Rattle.key_policy.specs.declared.algorithms.AeadKind.{AeadKind}
 use Rattle.key_policy.specs.declared.algorithms.AeadKind.TheVariants.{Ccm, Gcm}
+use Rattle.key_policy.specs.Parse.{hashed, hashed_if}
 use Rattle.key_policy.specs.Names.{NamesHash, NamesMode, Names, IsTagLength, is_ccm, is_cmac, is_hkdf, whole_length, whole_mac_by}
 
 -- ---- what holds of the row of an algorithm, as a test
@@ -202,6 +203,45 @@ module _ (alg : ℕ) where
           let tagged : (not (has_length b.lengths) || is_some (tag_length_of alg)) ≡ true =
           subst (λ (o : Option Base). (not (has_length (option_map_or (λ (x : Base). x.lengths) o lengths.NoLength)) || is_some (tag_length_of alg)) ≡ true) e (and_parts (is_some (entry_of alg)) _ h).1 in
           there b e (algorithm_at (base_of alg) (tag_length_of alg)) (row_named b (tag_length_of alg) e tagged)
+
+-- ---- the algorithm of a number, by its length
+
+none_at : {A : Type 0} (f : A → Option Algorithm) (n c : ℕ) (there rest : A) → (n ≡ c → f there ≡ None) → f rest ≡ None → f (cond (n == c) there rest) ≡ None
+none_at f n c there rest at r = elim (cases_Bool (n == c)) [ inl e ↦ rw e (at (eqb-true n c e)) | inr e ↦ rw e r ]
+
+module _ (n : ℕ) (outside : is_concrete n ≡ false) where
+  none_if : {a : Algorithm} (c : ℕ) → is_concrete c ≡ true → n ≡ c → Some a ≡ None
+  none_if c is e = absurd (both_ways (is_concrete c) (ap is_concrete (sym e) ∙ outside) is)
+
+  no_hash : (hash : Hash) → is_concrete (0x02000000 + byte_of hash) ≡ true → is_concrete (0x08000100 + byte_of hash) ≡ true → is_concrete (0x08800100 + byte_of hash) ≡ true → n % 2 ^ 8 ≡ byte_of hash → hashed (n / 2 ^ 8) hash None ≡ None
+  no_hash hash plain hkdf pbkdf2 low =
+      let at = none_at (λ (o : Option Algorithm). o) (n / 2 ^ 8) in
+      at 0x020000 _ _ (λ e. none_if _ plain (omega arith)) (at 0x038000 _ _ (λ e. refl) (at 0x080001 _ _ (λ e. none_if _ hkdf (omega arith)) (at 0x088001 _ _ (λ e. none_if _ pbkdf2 (omega arith)) refl)))
+
+  names_nothing : algorithm_at n None ≡ None
+  unfolding is_concrete entry_of tag_length_of base_at
+  names_nothing =
+      let at = none_at (λ (o : Option Algorithm). o) n in
+      let hash_at = none_at (λ (o : Option Hash). hashed_if (n / 2 ^ 8) o None) (n % 2 ^ 8) in
+      at 0x03c00200 _ _ (λ e. refl) (at 0x04c01000 _ _ (none_if _ refl) (at 0x04404000 _ _ (none_if _ refl) (at 0x04404100 _ _ (none_if _ refl) (at 0x04404400 _ _ (none_if _ refl)
+      (at 0x05400100 _ _ (λ e. refl) (at 0x05400200 _ _ (λ e. refl) (hash_at 8 (Some Sha224) _ (no_hash Sha224 refl refl refl) (hash_at 9 (Some Sha256) _ (no_hash Sha256 refl refl refl)
+      (hash_at 10 (Some Sha384) _ (no_hash Sha384 refl refl refl) (hash_at 11 (Some Sha512) None (no_hash Sha512 refl refl refl) refl))))))))))
+
+pub without_length : (alg : ℕ) → tag_length_of alg ≡ None → algorithm_at alg None ≡ algorithm_of alg
+unfolding algorithm_of is_concrete
+without_length alg none = elim (cases_Bool (is_concrete alg)) [
+  | inl e ↦ let plain = rw none at (and_parts (is_some (entry_of alg)) _ e).1 in rw (e, none, own_base alg (lengths_of alg) refl (grind (arith, plain))) refl
+  | inr e ↦ rw e (names_nothing alg e)
+]
+
+pub with_length : (alg : ℕ) (tag : Option ℕ) → tag_length_of alg ≡ tag → (tag ≡ None → ⊥) → algorithm_at (base_of alg) tag ≡ algorithm_of alg
+unfolding algorithm_of is_concrete
+with_length alg None is some = absurd (some refl)
+with_length alg (Some n) is some = by (entry_of alg) refl (tag_length_of-permitted alg n is)
+  where
+    by : (o : Option Base) → entry_of alg ≡ o → permits_length (lengths_of alg) n ≡ true → algorithm_at (base_of alg) (Some n) ≡ algorithm_of alg
+    by None e h = cc
+    by (Some b) e h = rw (e, is, or_right (not (has_length b.lengths)) true refl) refl
 
 -- the algorithm that a number names, where it names one
 pub record Named (alg : ℕ) (found : Option Algorithm) : Type 0 where

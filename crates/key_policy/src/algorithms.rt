@@ -110,15 +110,13 @@ fn algorithm_at(base: u32, tag: Option<u8>) -> Option<Algorithm>
 }
 
 impl Algorithm {
-    #[tactic(auto, unfolding(crate::specs::Parse::algorithm_of))]
-    // The algorithm that a number names.
+    // The algorithm that a number names. One without a permitted length names that of the base that it is, if it is one.
     pub(crate) fn of(alg: Alg) -> Option<Algorithm>
         ensures { result ≡ algorithm_of alg.0 }
     {
-        if alg.is_concrete() {
-            algorithm_at(alg.base(), alg.tag_length())
-        } else {
-            None
+        match alg.tag_length() {
+            None => algorithm_at(alg.0, None),
+            tag => algorithm_at(alg.base(), tag),
         }
     }
 

@@ -1,3 +1,4 @@
+pub mod Codes
 pub mod HashStates
 pub mod MacStates
 pub mod Setups

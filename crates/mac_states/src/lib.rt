@@ -1,7 +1,6 @@
 //! Hashes and MACs in several parts, as states that callers' handles keep.
 #![tactic(auto)]
 
-mod cmac_part;
 mod hash_state;
 mod mac_state;
 mod running_hash;

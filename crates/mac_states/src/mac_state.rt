@@ -1,5 +1,6 @@
 // A MAC in several parts.
-ghost use Rattle.std.specs.Prelude.{◌≡◌, true, false};
+ghost use Rattle.std.specs.Prelude.{◌≡◌, IsTrue, true, false};
+ghost use Rattle.std.specs.Option.{ForSome};
 ghost use Rattle.crypto_specs.specs.Prelude.{IsKey};
 ghost use Rattle.alg_encoding.specs.Encoding.{base_of};
 ghost use Rattle.store_model.specs.Prelude.{cmac_base, Operation, Inactive, is_inactive, refusal, MacWork, mac_step};
@@ -7,8 +8,9 @@ ghost use Rattle.service_calls.specs.Answers.{plain_reply};
 ghost use Rattle.service_calls.specs.Meanings.{model_mac_step};
 ghost use Rattle.alg_encoding.specs.declared.table.Class.TheVariants.{Mac};
 ghost use Rattle.key_policy.specs.Names.{IsOfClass};
-ghost use Rattle.mac_states.specs.MacStates.{IsClearMac, IsMacOperation};
 ghost use Rattle.multipart.specs.Turns.{is_active, loses_key};
+ghost use Rattle.multipart.specs.declared.Phase.TheVariants as phases;
+ghost use Rattle.mac_states.specs.Codes.{is_keyed};
 ghost use Rattle.mac_states.specs.Setups.{mac_setup};
 
 use crate::running_mac::RunningMac;
@@ -20,16 +22,19 @@ use service_calls::{MacStep, Output};
 /// A MAC in several parts: a setup with a key, any number of updates, and a finish that makes the MAC or verifies one.
 #[derive(Drop)]
 pub struct MacState {
-    pub(crate) state: OperationState<RunningMac>,
+    pub(crate) state: OperationState<Option<RunningMac>>,
+    ghost keyed: { state.phase ≡ phases.Active → ForSome state.work (λ work. IsTrue (is_keyed work.code)) },
 }
 
 impl MacState {
+    ghost use Rattle.mac_states.specs.MacStates.{IsClearMac, IsMacOperation};
+
     /// An inactive operation.
     pub fn new() -> MacState
         ensures { IsMacOperation result Inactive }
     {
         MacState {
-            state: OperationState::new(RunningMac::new()),
+            state: OperationState::new(None),
         }
     }
 
@@ -65,7 +70,7 @@ impl MacState {
     {
         self.state.phase.check_inactive()?;
         let mac = alg.mac()?;
-        self.state.work.start(verifies, mac, key);
+        self.state.work = Some(RunningMac::begun(verifies, mac, key));
         self.state.phase = Phase::Active;
         Ok(())
     }
@@ -96,6 +101,8 @@ impl MacState {
 }
 
 impl<'a> Family<MacStep<'a>> for MacState {
+    ghost use Rattle.mac_states.specs.MacStates.{IsMacOperation};
+
     ghost Work = { MacWork };
 
     ghost stands = { IsMacOperation };
@@ -112,7 +119,7 @@ impl<'a> Family<MacStep<'a>> for MacState {
     }
 
     fn takes_random(step: &MacStep<'a>) -> bool {
-        RunningMac::takes_random(step)
+        <Option<RunningMac>>::takes_random(step)
     }
 
     fn draws(&self, step: &MacStep<'a>, room: usize) -> usize {

@@ -1,5 +1,5 @@
 // The MAC of a message that comes piece by piece.
-ghost use Rattle.std.specs.Prelude.{◌≡◌, ◌≤◌, ◌++◌, ℕ, Bool, false, true, IfOk, OnOk, length, take};
+ghost use Rattle.std.specs.Prelude.{◌≡◌, ◌≤◌, ◌++◌, ℕ, Bool, IsTrue, false, true, IfOk, OnOk, length, take};
 ghost use Rattle.std.specs.Result.{result_err};
 ghost use Rattle.psa_status.specs.Rows.{first_row};
 ghost use Rattle.crypto_specs.specs.Prelude.{IsKey};
@@ -7,16 +7,23 @@ ghost use Rattle.store_model.specs.Prelude.{mac_of, mac_step, tag_bytes, whole_m
 ghost use Rattle.store_model.specs.MacOperations.{verify_rows};
 ghost use Rattle.service_calls.specs.Meanings.{model_mac_step};
 ghost use Rattle.key_policy.specs.Names.{NamesMac, is_cmac};
+ghost use Rattle.mac_states.specs.Codes.{is_keyed};
 ghost use Rattle.mac_states.specs.MacStates.{HoldsMac, IsClearRunningMac};
 
-use crate::cmac_part::CmacPart;
 use crate::total::Total;
-use hash_ops::Hash;
+use cmac_ops::CmacState;
 use hmac_ops::HmacState;
-use key_policy::{MacAlgorithm, MacKind};
-use multipart::{Stepped, Steps, Work, give_front, is_front};
+use key_policy::{MacAlgorithm, MacKind, aes_key};
+use multipart::{Stepped, Steps, Work, give_front, is_front, move_to_front};
 use psa_status::Status;
 use service_calls::MacStep;
+
+/// What computes a MAC.
+#[derive(Drop)]
+pub enum Code {
+    Hmac(HmacState),
+    Cmac(CmacState),
+}
 
 /// A message that is authenticated piece by piece: it stands for its pieces, one after another. Its MAC is made, or
 /// verified.
@@ -25,71 +32,61 @@ pub struct RunningMac {
     length: u8,
     verifies: bool,
     total: Total,
-    hmac: HmacState,
-    cmac: CmacPart,
+    pub(crate) code: Code,
 }
 
 impl RunningMac {
-    /// One that is wiped.
-    pub fn new() -> RunningMac
-        ensures { IsClearRunningMac result }
-    {
-        let mut hmac = HmacState::new(Hash::Sha256, &[]);
-        hmac.wipe();
-        RunningMac {
-            length: 0,
-            verifies: false,
-            total: Total::none(),
-            hmac,
-            cmac: CmacPart::new(),
-        }
-    }
-
-    /// Begins with the empty message under this key.
-    pub fn start(&mut self, verifies: bool, mac: MacAlgorithm, key: &[u8])
+    /// The empty message under this key.
+    pub fn begun(verifies: bool, mac: MacAlgorithm, key: &[u8]) -> RunningMac
         requires { is_cmac mac.kind ≡ true → IsKey key.now }
-        ensures { (alg : ℕ) → NamesMac alg mac → HoldsMac self.new (mac_work verifies alg key.now) }
+        ensures keyed { IsTrue (is_keyed result.code) }
+        ensures holds { (alg : ℕ) → NamesMac alg mac → HoldsMac result (mac_work verifies alg key.now) }
     {
-        self.forget();
-        self.length = mac.length;
-        self.verifies = verifies;
-        match mac.kind {
-            MacKind::Hmac(which) => self.hmac = HmacState::new(which, key),
-            MacKind::Cmac => self.cmac.start(key),
+        let code = match mac.kind {
+            MacKind::Hmac(which) => Code::Hmac(HmacState::new(which, key)),
+            MacKind::Cmac => Code::Cmac(CmacState::new(aes_key(key))),
+        };
+        RunningMac {
+            length: mac.length,
+            verifies,
+            total: Total::none(),
+            code,
         }
     }
 
     /// Adds a piece to the message; `InvalidArgument` where it would be longer than it may be.
     pub fn update(&mut self, input: &[u8]) -> Result<(), Status>
+        requires { IsTrue (is_keyed self.old.code) }
+        ensures keyed { IsTrue (is_keyed self.new.code) }
         ensures refusal { (w : MacWork) → HoldsMac self.old w →
             result_err result ≡ first_row (total_rows (length w.message) (length input.now)) }
         ensures holds { (w : MacWork) → HoldsMac self.old w →
             OnOk result (HoldsMac self.new (record w { message = w.message ++ input.now })) }
     {
         self.total.add(input.len())?;
-        if self.cmac.runs {
-            self.cmac.update(input);
-        } else {
-            self.hmac.update(input);
+        match &mut self.code {
+            Code::Hmac(hmac) => hmac.update(input),
+            Code::Cmac(cmac) => cmac.update(input),
         }
         Ok(())
     }
 
     // Writes the whole MAC of the message to the front of `out`, and answers its length.
     fn put_whole_mac(&mut self, out: &mut [u8; 64]) -> usize
+        requires { IsTrue (is_keyed self.old.code) }
         ensures bound { result ≤ 64 }
         ensures mac { (w : MacWork) → HoldsMac self.old w → take result out.new ≡ whole_mac w.alg w.key w.message }
     {
-        if self.cmac.runs {
-            self.cmac.finish(out)
-        } else {
-            self.hmac.finish(out)
+        match &mut self.code {
+            Code::Hmac(hmac) => hmac.finish(out),
+            Code::Cmac(cmac) => move_to_front(&mut cmac.finish(), out),
         }
     }
 
     // Writes the MAC of the message, which is the front of the whole one, to the front of `out`, and answers its
     // length.
     fn put_mac(&mut self, out: &mut [u8; 64]) -> usize
+        requires { IsTrue (is_keyed self.old.code) }
         ensures bound { result ≤ 64 }
         ensures tag { (w : MacWork) → HoldsMac self.old w → result ≤ tag_bytes w.alg }
         ensures mac { (w : MacWork) → HoldsMac self.old w → take result out.new ≡ mac_of w.alg w.key w.message }
@@ -101,6 +98,7 @@ impl RunningMac {
     /// Writes the MAC of the message to the front of a buffer that has room for it, and answers its length.
     /// `BadState` where a MAC is verified.
     pub fn sign(&mut self, out: &mut [u8]) -> Result<usize, Status>
+        requires { IsTrue (is_keyed self.old.code) }
         ensures refusal { (w : MacWork) → HoldsMac self.old w →
             result_err result ≡ first_row (sign_rows w (length out.old)) }
         ensures length { (w : MacWork) → HoldsMac self.old w →
@@ -123,6 +121,7 @@ impl RunningMac {
     /// Compares the MAC of the message. `BadState` where it is made; `InvalidSignature` where a byte or the length
     /// differs.
     pub fn verify(&mut self, expected: &[u8]) -> Result<(), Status>
+        requires { IsTrue (is_keyed self.old.code) }
         ensures { (w : MacWork) → HoldsMac self.old w → result_err result ≡ first_row (verify_rows w expected.now) }
     {
         if !self.verifies {
@@ -145,10 +144,14 @@ impl Work for RunningMac {
 
     ghost holds = { HoldsMac };
 
+    ghost runs = { λ s. IsTrue (is_keyed s.code) };
+
     fn forget(&mut self) {
         self.total = Total::none();
-        self.hmac.wipe();
-        self.cmac.wipe();
+        match &mut self.code {
+            Code::Hmac(hmac) => hmac.wipe(),
+            Code::Cmac(cmac) => cmac.wipe(),
+        }
     }
 }
 

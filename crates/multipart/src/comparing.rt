@@ -1,8 +1,8 @@
 // What was computed, compared with what was given.
 ghost use Rattle.std.specs.Prelude.{◌≡◌, ◌≤◌, bytes_eq, length, replicate, take};
 
-// Whether two lists of bytes are the same. The comparison doesn't end at the first byte that differs.
-fn is_equal(given: &[u8], computed: &[u8]) -> bool
+/// Whether two lists of bytes are the same. The comparison doesn't end at the first byte that differs.
+pub fn is_equal(given: &[u8], computed: &[u8]) -> bool
     ensures { result ≡ bytes_eq given.now computed.now }
 {
     if given.len() != computed.len() {

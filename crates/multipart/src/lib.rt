@@ -5,7 +5,7 @@ ghost use Rattle.std.specs.Prelude.{◌≡◌, if◌then◌else◌, IfOk, IfErr}
 ghost use Rattle.psa_status.specs.declared.Status.TheVariants.{BadState};
 ghost use Rattle.multipart.specs.declared.Phase.TheVariants as phase;
 
-pub use comparing::is_front;
+pub use comparing::{is_equal, is_front};
 pub use family::{Family, compute, drawn};
 pub use outputs::{give, give_front, move_to_front};
 use psa_status::Status;
@@ -14,6 +14,7 @@ pub use stepped::Stepped;
 
 mod comparing;
 mod family;
+mod optional;
 mod outputs;
 mod state;
 mod stepped;

@@ -7,7 +7,7 @@ use Rattle.key_attributes.specs.declared.Attributes.{Attributes}
 use Rattle.key_policy.specs.declared.key_use.KeyUse.{KeyUse}
 use Rattle.key_policy.specs.Uses.{use_refusal}
 use Rattle.derivation_states.specs.KeySteps.{output_key_refusal}
-use Rattle.store_model.specs.Prelude.{done, recorded_of, bytes_of_key, Active, fails, goes_on, DerivationWork, with_key, HandleOperation, Deriving, Service, applied, derivation_part, is_alive, key_of_operation, operation_of, part_of, InputKey, OutputKey, creation_of, derived_key, handle_step, random_of}
+use Rattle.store_model.specs.Prelude.{done, recorded_of, bytes_of_key, Active, fails, goes_on, DerivationWork, with_key, HandleOperation, Deriving, Service, applied, derivation_part, is_alive, key_of_operation, operation_of, part_of, InputKey, OutputKey, creation_of, derived_key, handle_step, next_random}
 use Rattle.store_model.specs.DerivationOperations.{stated_bytes}
 use Rattle.service_calls.specs.Meanings.{model_setup, model_step}
 use Rattle.service_calls.specs.declared.handle_calls.Setup.{Setup}
@@ -36,7 +36,7 @@ SetupsAreTheModels = (service : Service) (caller handle : ℕ) (setup : Setup) �
 abbrev pub StepsAreTheModels : Type 0
 StepsAreTheModels = (service : Service) (caller handle : ℕ) (step : Step) (room : ℕ) →
     handle_step service caller handle (model_step step room)
-    ≡ applied service caller handle (stepped_by (has_live_key service caller handle) (random_of service caller) (operation_of service caller handle) (model_step step room))
+    ≡ applied service caller handle (stepped_by (has_live_key service caller handle) (next_random service caller 16) (operation_of service caller handle) (model_step step room))
 
 -- A KEY AS A SECRET
 

@@ -12,8 +12,8 @@ use mac_states::{HashOpState, MacState};
 use psa_status::Memory;
 use std::alloc::Global;
 
-/// The states of all families side by side, of which one at most isn't inactive. All buffers are there from the start, so
-/// that a wipe clears them.
+/// The states of all families side by side, of which one at most isn't inactive. A MAC's, a cipher's and an AEAD's is made
+/// when a first one begins, and stays in its place, where a wipe clears it. What takes memory is there from the start.
 #[derive(Drop)]
 pub struct FamilyStates {
     pub(crate) hash: HashOpState,

@@ -12,17 +12,14 @@ use random_streams::Stream;
 use service_calls::Output;
 
 // The stream's next bytes where a step may take them. They are not drawn.
-fn random_for(stream: &mut Stream, takes: bool) -> [u8; 16]
-    requires words { stream.old.place + 256 ≤ 2 ^ 60 }
-    ensures stream { stream.new ≡ stream.old }
-    ensures bytes { takes ≡ true → result ≡ next_bytes stream.old 16 }
+fn random_for(stream: &Stream, takes: bool) -> [u8; 16]
+    requires words { stream.now.place + 256 ≤ 2 ^ 60 }
+    ensures bytes { takes ≡ true → result ≡ next_bytes stream.now 16 }
     ensures size { length result ≡ 16 }
 {
     let mut random = [0; 16];
     if takes {
-        let place = stream.place();
-        stream.fill(&mut random);
-        stream.go_back(place);
+        stream.peek(&mut random);
     }
     random
 }

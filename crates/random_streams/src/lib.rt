@@ -48,6 +48,18 @@ impl Stream {
         fill_bytes_via_u32(&mut self.generator, out);
     }
 
+    /// Fills `out` with the random bytes that come next. They are not drawn.
+    pub fn peek(&self, out: &mut [u8])
+        requires { self.now.place + words_used (length out.old) ≤ words_offered }
+        ensures { out.new ≡ next_bytes self.now (length out.old) }
+    {
+        // To draw them and to go back would compute the block again.
+        let mut ahead = Stream {
+            generator: self.generator.clone().unwrap(),
+        };
+        ahead.fill(out);
+    }
+
     /// How many words were drawn.
     pub fn place(&self) -> u64
         ensures value { result ≡ self.now.place }

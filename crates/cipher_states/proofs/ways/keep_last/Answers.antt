@@ -1,4 +1,4 @@
-use Rattle.std.proofs.Common.{List, [], ap, append-nil, arith, drop, length, sym, ℕ, ◌%◌, ◌++◌, ◌+◌, ◌-◌, ◌<◌, ◌∙◌, ◌∷◌, ◌≡◌, ◌≤◌}
+use Rattle.cipher_states.proofs.Common.{List, [], ap, arith, drop, length, sym, ℕ, ◌%◌, ◌++◌, ◌+◌, ◌-◌, ◌<◌, ◌∙◌, ◌∷◌, ◌≡◌, ◌≤◌}
 use Rattle.std.proofs.Math.Seq.{drop-append-add}
 use Rattle.std.proofs.lemmas.Slice.{between_to_end}
 use Rattle.cipher_states.proofs.ways.keep_last.Goals as goal
@@ -9,14 +9,7 @@ kept_end chain text size some =
     let e : length text ≡ length chain + (length text - 16) = omega arith in
     sym (ap (λ (n : ℕ). drop n (chain ++ text)) e ∙ drop-append-add chain text (length text - 16))
 
-kept_all : (chain text : List ℕ) → length text < 16 → length text % 16 ≡ 0 → chain ≡ drop (length text) (chain ++ text)
-kept_all chain [] none whole = sym (append-nil chain)
-kept_all chain (x ∷ xs) none whole = absurd (omega arith)
-
 pub returns-then-text-ge16 : goal.returns-then-text-ge16
 returns-then-text-ge16 c =
     let text = c.args.text.now in
     c.copy_from_slice.ensures.after ∙ between_to_end text (length text - 16) (length text) (omega arith) ∙ kept_end c.args.chain.now text c.told-chain c.if-text-ge16.true
-
-pub returns-else-text-ge16 : goal.returns-else-text-ge16
-returns-else-text-ge16 c = kept_all c.args.chain.now c.args.text.now c.if-text-ge16.false c.requires

@@ -1,4 +1,4 @@
-use Rattle.std.proofs.Common.{refl}
+use Rattle.cipher_states.proofs.Common.{refl}
 use Rattle.cipher_states.proofs.TextPlaces.{fresh_text}
 use Rattle.cipher_states.proofs.block_text.BlockText.new.Goals as goal
 

@@ -1,5 +1,4 @@
-use Rattle.std.proofs.Common.{List, ap, ap₂, ℕ, ◌+◌, ◌∙◌}
-use Rattle.cipher_states.proofs.Common.{Way, chains, next_chain}
+use Rattle.cipher_states.proofs.Common.{List, Way, ap, ap₂, chains, next_chain, ℕ, ◌+◌, ◌∙◌}
 use Rattle.cipher_states.proofs.TextPlaces.{grown_text}
 use Rattle.cipher_states.proofs.block_text.BlockText.update.Goals as goal
 

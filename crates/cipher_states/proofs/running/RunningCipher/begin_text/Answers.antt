@@ -1,5 +1,4 @@
-use Rattle.std.proofs.Common.{Bool, [], subst, true, ℕ, ◌≡◌}
-use Rattle.cipher_states.proofs.Common.{IsAt, RunsBlocks, Way, Whole, block_number, chains, model_mode, way_of}
+use Rattle.cipher_states.proofs.Common.{Bool, IsAt, RunsBlocks, Way, Whole, [], block_number, chains, model_mode, subst, true, way_of, ℕ, ◌≡◌}
 use Rattle.cipher_states.proofs.running.RunningCipher.begin_text.Goals as goal
 
 pub returns-clause-stream : goal.returns-clause-stream

@@ -1,5 +1,4 @@
-use Rattle.std.proofs.Common.{ap, ap₂, arith, length, sym, true, ◌+◌, ◌∙◌, ◌≡◌, ◌≤◌}
-use Rattle.cipher_states.proofs.Common.{cipher_fresh, due_now, takes_text, total_limit, unless, with_text}
+use Rattle.cipher_states.proofs.Common.{ap, ap₂, arith, cipher_fresh, due_now, length, sym, takes_text, total_limit, true, unless, with_text, ◌+◌, ◌∙◌, ◌≡◌, ◌≤◌}
 use Rattle.cipher_states.proofs.RunningTexts.{length-fresh, update_rows, no_room, has_room}
 use Rattle.cipher_states.proofs.running.RunningCipher.check_update.Goals as goal
 

@@ -1,20 +1,12 @@
-use Rattle.std.proofs.Common.{Err, List, None, Option, Result, Some, [], ap, arith, drop, if◌then◌else◌, length, refl, replicate, rules, subst, sym, take, ℕ, ◌++◌, ◌-◌, ◌∙◌, ◌≡◌, ◌≤◌}
-use Rattle.cipher_states.proofs.Common.{After, AnswersOrSpoils, CipherWork, HoldsCipher, InError, Inactive, Operation, Reply, buffer_after, buffer_bytes, cipher_finish_rows, drop_all, first_row, last_length, last_part, mode_of, unless_failed, whole_text}
-use Rattle.std.specs.Result.{is_ok}
-use Rattle.std.proofs.lemmas.Result.{err_from_is_err_and}
+use Rattle.std.proofs.lemmas.Grind.{common_steps}
+use Rattle.cipher_states.proofs.Common.{After, AnswersOrSpoils, CipherWork, Err, HoldsCipher, InError, Inactive, List, None, Operation, Option, Reply, Result, Some, [], ap, arith, buffer_after, cipher_finish_rows, drop, first_row, if◌then◌else◌, is_ok, last_length, last_part, length, mode_of, refl, rules, subst, sym, take, unless_failed, whole_text, ℕ, ◌++◌, ◌-◌, ◌∙◌, ◌≡◌, ◌≤◌}
 use Rattle.psa_status.specs.declared.Status.{Status}
-use Rattle.psa_status.proofs.Rows.{unless-ok, unless-err}
-use Rattle.std.proofs.lemmas.List.{append-nil, length-take}
+use Rattle.psa_status.proofs.Rows.{unless-ok}
 use Rattle.cipher_states.proofs.running.RunningCipher.finish.Goals as goal
 
 -- a buffer whose front alone is written
 front_written : (old : List ℕ) (n : ℕ) (reply : Reply) → reply.needed ≡ n → n ≤ length old → buffer_after (take n old) reply ++ drop n old ≡ buffer_after old reply
-front_written old n reply e h =
-    let written : List ℕ = buffer_bytes reply.output in
-    let zeros : List ℕ = replicate (reply.needed - length written) 0 in
-    let past : drop reply.needed (take n old) ≡ [] = drop_all reply.needed (take n old) (omega (arith, length-take n old)) in
-    ap (λ (l : List ℕ). written ++ zeros ++ l ++ drop n old) past ∙ ap (λ (l : List ℕ). l ++ drop n old) (append-nil (written ++ zeros))
-    ∙ ap (λ k. written ++ zeros ++ drop k old) (sym e)
+front_written old n reply e h = grind (arith, common_steps)
 
 last_needed : (w : CipherWork) (o : Option (List ℕ)) → (last_part w o).reply.needed ≡ last_length (mode_of w.alg)
 last_needed w (Some text) = refl
@@ -25,28 +17,9 @@ end_of r = if is_ok r then Inactive else InError
 
 -- where a row refuses
 module _ (o : Option Status) (end : After CipherWork) (t : Status) (refused : o ≡ Some t) where
-  failed_reply : (r : Result ℕ Status) (s : Status) → r ≡ Err s → s ≡ t → AnswersOrSpoils r (unless_failed o end).reply
-  failed_reply r s e f =
-      let same = ap (λ (p : Option Status). (unless_failed p end).reply) refused in
-      subst (λ (x : Result ℕ Status). AnswersOrSpoils x (unless_failed o end).reply) (sym (e ∙ ap Err f)) (ap (λ (x : Reply). x.status) same, ap (λ (x : Reply). x.output) same)
-
-  failed_buffer : (old : List ℕ) → old ≡ buffer_after old (unless_failed o end).reply
-  failed_buffer old = ap (λ (p : Option Status). buffer_after old (unless_failed p end).reply) (sym refused)
-
   failed_operation : (r : Result ℕ Status) (s : Status) → r ≡ Err s → (unless_failed o end).operation ≡ (if is_ok r then Inactive else InError)
   failed_operation r s e =
       ap (λ (p : Option Status). (unless_failed p end).operation) refused ∙ ap (λ (x : Result ℕ Status). end_of x) (sym e)
-
-pub returns-in_err-needed : goal.returns-in_err-needed
-returns-in_err-needed c =
-    let p = err_from_is_err_and c.from_residual.result c.from_residual.ensures.1 in
-    let refused = λ (w : CipherWork) (h : HoldsCipher c.args.self.now w). unless-err (first_row (cipher_finish_rows w (length c.args.out.now))) _ _ (sym (c.in_err-needed.ensures.value w h)) in
-    record {
-      within = search rules;
-      reply = λ w h. failed_reply _ _ c.in_err-needed.field-0.0 (refused w h) c.from_residual.result p.0 p.1 p.2;
-      buffer = λ w h. failed_buffer _ _ c.in_err-needed.field-0.0 (refused w h) c.args.out.now;
-      operation = λ w h. failed_operation _ _ c.in_err-needed.field-0.0 (refused w h) c.from_residual.result p.0 p.1;
-    }
 
 pub returns : goal.returns
 returns c =

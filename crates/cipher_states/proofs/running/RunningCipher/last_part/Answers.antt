@@ -1,7 +1,5 @@
-use Rattle.std.proofs.Common.{Bool, List, ap, cond, length, refl, rules, subst, sym, true, ℕ, ◌<◌, ◌∙◌, ◌≡◌}
-use Rattle.cipher_states.proofs.Common.{After, AnswersOrSpoils, buffer_after, CipherWork, eqb-true, GivesBytes, HoldsCipher, Inactive, InError, is_whole_text, last_length, model_mode, pkcs7_unpadded, takes_text}
-use Rattle.cipher_states.proofs.LastParts.{unpadded_end}
-use Rattle.cipher_states.proofs.Finishing.{not_none, room_is, block_buffer, ends_bare, part_kept, ends_padded, block_kept, ends_unpadded}
+use Rattle.cipher_states.proofs.Common.{After, AnswersOrSpoils, Bool, CipherWork, GivesBytes, HoldsCipher, InError, Inactive, List, ap, buffer_after, cond, eqb-true, is_whole_text, last_length, length, model_mode, pkcs7_unpadded, refl, rules, subst, sym, takes_text, true, ℕ, ◌<◌, ◌∙◌, ◌≡◌}
+use Rattle.cipher_states.proofs.{LastParts.unpadded_end, Finishing.not_none, Finishing.room_is, Finishing.block_buffer, Finishing.ends_bare, Finishing.part_kept, Finishing.ends_padded, Finishing.block_kept, Finishing.ends_unpadded}
 use Rattle.cipher_states.proofs.running.RunningCipher.last_part.Goals as goal
 
 pub returns-then-is_empty-clause-buffer : goal.returns-then-is_empty-clause-buffer

@@ -1,5 +1,4 @@
-use Rattle.std.proofs.Common.{List, ap, false, length, length-append, subst, sym, take, true, ℕ, ◌++◌, ◌+◌, ◌∙◌, ◌≡◌}
-use Rattle.cipher_states.proofs.Common.{RunsBlocks, Whole, aes_encrypt, block_number, bytes_or_empty, is_stream, keeps_last, mode_of, model_mode, processed, text_xor, way_of, with_text}
+use Rattle.cipher_states.proofs.Common.{List, RunsBlocks, Whole, aes_encrypt, ap, block_number, bytes_or_empty, false, is_stream, keeps_last, length, length-append, mode_of, model_mode, processed, subst, sym, take, text_xor, true, way_of, with_text, ℕ, ◌++◌, ◌+◌, ◌∙◌, ◌≡◌}
 use Rattle.cipher_states.proofs.RunningTexts.{runs_stream, runs_blocks, fresh_stream, fresh_blocks, due_blocks, by_blocks}
 use Rattle.cipher_states.proofs.running.RunningCipher.take_in.Goals as goal
 

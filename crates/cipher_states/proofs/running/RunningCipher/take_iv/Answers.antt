@@ -1,5 +1,4 @@
-use Rattle.std.proofs.Common.{[], ap, is_some, refl, ◌==◌, ◌∙◌, ◌≡◌}
-use Rattle.cipher_states.proofs.Common.{iv_length, mode_of, model_mode, with_iv}
+use Rattle.cipher_states.proofs.Common.{[], ap, is_some, iv_length, mode_of, model_mode, refl, with_iv, ◌==◌, ◌∙◌, ◌≡◌}
 use Rattle.cipher_states.proofs.Beginnings.{begun_work, not_ready}
 use Rattle.cipher_states.proofs.running.RunningCipher.take_iv.Goals as goal
 

@@ -1,25 +1,32 @@
-use Rattle.std.proofs.Common.{arith, refl, rules, subst, sym, ◌∙◌}
-use Rattle.derivation_states.proofs.Common.{HasSecret, take_more_set, without}
-use Rattle.derivation_states.proofs.Running.{none_taken, one_more, without_none, without_twice}
+use Rattle.std.proofs.Common.{ap, arith, drop, length, take, ℕ, ◌≡◌, refl, rules, subst, sym, ◌+◌, ◌-◌, ◌∙◌}
+use Rattle.std.proofs.lemmas.Slice.{take-put_mid}
+use Rattle.derivation_states.proofs.Common.{HasSecret, next_derived, without}
+use Rattle.derivation_states.proofs.Running.{length-given, none_taken, some_more, without_none, without_twice}
 use Rattle.derivation_states.proofs.output.OutputState.fill.Goals as goal
 
-pub bytes-init : goal.bytes-init
-bytes-init c = record {
+pub pieces-init : goal.pieces-init
+pieces-init c = record {
+  within = omega arith;
   capacity = omega arith;
   long = refl;
   holds = λ w r. subst (HasSecret c.args.inputs.now c.args.self.now) (without_none w) r;
   bytes = λ w r. sym (none_taken c.args.inputs.now c.args.self.now w r);
 }
 
-pub bytes-preserved : goal.bytes-preserved
-bytes-preserved c = record {
+pub pieces-preserved : goal.pieces-preserved
+pieces-preserved c = record {
+  within = omega arith;
   capacity = omega arith;
   long = search rules;
-  holds = λ w r.
-      let now = c.bytes.invariant.holds w r in
-      subst (HasSecret c.args.inputs.now c.take_byte.new.self) (without_twice w c.bytes.i 1) (c.take_byte.ensures.ready (without w c.bytes.i) now.inputs now.output.running now.secret);
+  holds = λ w r. subst (HasSecret c.args.inputs.now c.take_piece-count.new.self) (without_twice w c.pieces.filled c.take_piece-count.result) (c.take_piece-count.ensures.holds (without w c.pieces.filled) (c.pieces.invariant.holds w r));
   bytes = λ w r.
-      let now = c.bytes.invariant.holds w r in
-      take_more_set c.bytes.out c.bytes.i c.take_byte.result (omega arith)
-      ∙ one_more c.args.inputs.now c.args.self.now w r c.bytes.i c.take_byte.result _ (c.bytes.invariant.bytes w r) (c.take_byte.ensures.byte (without w c.bytes.i) now.inputs now.output.running now.secret);
+      let filled = c.pieces.filled in
+      let count : ℕ = c.take_piece-count.result in
+      let o = c.take_piece-count.new.self in
+      let piece = c.copy_from_slice.new.self in
+      let before = c.pieces.invariant.holds w r in
+      let taken : count ≡ o.used - (o.used - count) = omega arith in
+      let next : next_derived (without w filled) count ≡ piece = c.take_piece-count.ensures.bytes (without w filled) before ∙ ap (λ (k : ℕ). take k (drop (o.used - count) o.block)) taken ∙ sym c.copy_from_slice.ensures.after in
+      take-put_mid filled (filled + count - filled) c.pieces.out piece (filled + count) (omega (arith, ap length next, length-given c.args.inputs.now c.pieces.self (without w filled) before count)) (omega arith)
+      ∙ some_more c.args.inputs.now c.args.self.now w r filled count _ piece (c.pieces.invariant.bytes w r) next;
 }

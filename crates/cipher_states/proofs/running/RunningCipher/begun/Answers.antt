@@ -1,7 +1,6 @@
-use Rattle.std.proofs.Common.{ap, refl, ◌∙◌}
-use Rattle.cipher_states.proofs.Common.{cipher_work, mode_of, model_mode}
+use Rattle.cipher_states.proofs.Common.{ap, cipher_work, mode_of, model_mode, refl, ◌∙◌}
 use Rattle.cipher_states.proofs.Beginnings.{begun_work, no_stream, no_chain}
-use Rattle.cipher_states.proofs.running.RunningCipher.start.Goals as goal
+use Rattle.cipher_states.proofs.running.RunningCipher.begun.Goals as goal
 
 pub returns-clause-holds : goal.returns-clause-holds
 returns-clause-holds c = λ alg names.
