@@ -1,38 +1,34 @@
 -- A store with one key more.
-use Rattle.std.proofs.Common.{ne_eqb, Bool, List, None, Option, Some, [], ap, arith, cond, eq-eqb, false, inl, inr, length, nat_lt, refl, set, slice_index, slice_set, subst, sym, true, ℕ, ◌+◌, ◌/◌, ◌<◌, ◌==◌, ◌^◌, ◌∙◌, ◌≡◌, ◌≢◌, ◌≤◌, ◌⊎◌}
-use Rattle.store_core.proofs.Common.{Attributes, bytes-buffer_of, cases_eq, cell_state, count_persistent, counted, created, durable_keys, eqb-true, false≢true, Free, full_slot, get_or-set_other, get_or-set_same, held_key, HeldKey, HeldKeys, HoldsHandle, HoldsKeys, identified, is_opaque, is_open, is_volatile, is_volatile_of, IsDirectory, IsFirstWithoutKey, IsPut, IsSomeKey, IsSoundStore, IsStated, IsThereOrNew, kept, Key, Lacks, le-ltb, len_kept-insert, length-map, live_volatile, lt-ltb, made_of, made_with, MayBeKept, nat_cmp_total, new_id, new_is_free, new_key, none-some, of_volatile, Open, option_map, put, Puts, room_of, same_Some, settled_state, settled_states, SlotHasKey, stated_id, stored, unsigned_tied, with_held_key}
-use Rattle.std.specs.FinMap as map
-use Rattle.key_cells.specs.declared.state.CellState as cell
-use Rattle.store_model.specs.Store as model
+use Rattle.store_core.proofs.Common.{[], ap, arith, Attributes, Bool, bytes-buffer_of, cases_eq, cell_state, CellState, cond, count_persistent, counted, created, durable_keys, eq-eqb, eqb-true, false, false≢true, first_volatile, Free, full_slot, get_or-set_other, get_or-set_same, has_secure_element, held_key, HeldKey, HeldKeys, HoldsHandle, HoldsKeys, identified, inl, inr, is_opaque, is_open, is_volatile, is_volatile_of, IsDirectory, IsFirstWithoutKey, IsPut, IsSomeKey, IsSoundStore, IsStated, IsThereOrNew, kept, Key, Lacks, le-ltb, len_kept-insert, length, length-map, List, live_volatile, lt-ltb, made_of, made_with, map_get, map_get-insert, map_len, MayBeKept, Model, nat_cmp_total, nat_lt, ne_eqb, new_id, new_is_free, new_key, next_volatile, None, none-some, of_volatile, Open, Option, option_map, put, Puts, refl, retain_keys, room_of, same_Some, set, settled_state, settled_states, slice_index, slice_set, SlotHasKey, Some, stated_id, stored, subst, sym, true, unsigned_tied, with_held_key, ℕ, ◌+◌, ◌/◌, ◌<◌, ◌==◌, ◌^◌, ◌∙◌, ◌≡◌, ◌≢◌, ◌≤◌, ◌⊎◌}
 use Rattle.store_core.proofs.Kept.{HasCellKey}
 use Rattle.store_core.proofs.Removing.{settled_at, settled_opens}
 
-module _ (m : model.Store) (caller : ℕ) (recorded : Attributes) (bytes : List ℕ) (first : 1 ≤ caller) (last : caller ≤ 16) (sound : IsSoundStore m) (may : MayBeKept m caller recorded (length bytes)) where
+module _ (m : Model) (caller : ℕ) (recorded : Attributes) (bytes : List ℕ) (first : 1 ≤ caller) (last : caller ≤ 16) (sound : IsSoundStore m) (may : MayBeKept m caller recorded (length bytes)) where
   abbrev pub id : ℕ
   id = new_id m caller recorded
 
   abbrev pub new : Key
   new = new_key m caller id recorded bytes
 
-  abbrev pub after : model.Store
+  abbrev pub after : Model
   after = (created m caller recorded bytes).store
 
-  pub none_here : map.get m.keys id ≡ None
+  pub none_here : map_get m.keys id ≡ None
   none_here = new_is_free m caller recorded sound may.room
 
-  pub put_here : map.get after.keys id ≡ Some new
-  put_here = put m.keys id new id ∙ ap (λ b. cond b (Some new) (map.get m.keys id)) (eq-eqb id id refl)
+  pub put_here : map_get after.keys id ≡ Some new
+  put_here = put m.keys id new id ∙ ap (λ b. cond b (Some new) (map_get m.keys id)) (eq-eqb id id refl)
 
-  pub put_other : (q : ℕ) → q ≢ id → map.get after.keys q ≡ map.get m.keys q
-  put_other q other = put m.keys id new q ∙ ap (λ b. cond b (Some new) (map.get m.keys q)) (ne_eqb q id other)
+  pub put_other : (q : ℕ) → q ≢ id → map_get after.keys q ≡ map_get m.keys q
+  put_other q other = put m.keys id new q ∙ ap (λ b. cond b (Some new) (map_get m.keys q)) (ne_eqb q id other)
 
   -- what is found afterwards was there, or is the new key
   abbrev pub IsOldOrNew : ℕ → Key → Type 0
-  IsOldOrNew q k = ((q ≡ id) × (new ≡ k)) ⊎ ((q ≢ id) × (map.get m.keys q ≡ Some k))
+  IsOldOrNew q k = ((q ≡ id) × (new ≡ k)) ⊎ ((q ≢ id) × (map_get m.keys q ≡ Some k))
 
-  pub old_or_new : (q : ℕ) (k : Key) → map.get after.keys q ≡ Some k → IsOldOrNew q k
+  pub old_or_new : (q : ℕ) (k : Key) → map_get after.keys q ≡ Some k → IsOldOrNew q k
   old_or_new q k is = elim (cases_eq q id) [
-    | inl same ↦ inl (same, same_Some new k (sym put_here ∙ (ap (map.get after.keys) (sym same) ∙ is)))
+    | inl same ↦ inl (same, same_Some new k (sym put_here ∙ (ap (map_get after.keys) (sym same) ∙ is)))
     | inr other ↦ inr (other, sym (put_other q other) ∙ is)
   ]
 
@@ -46,7 +42,7 @@ module _ (m : model.Store) (caller : ℕ) (recorded : Attributes) (bytes : List 
 
   pub put_kept : IsPut (durable_keys m) (durable_keys after) id (kept (Some new))
   put_kept q = ap kept (put m.keys id new q) ∙ both (q == id) where
-    both : (b : Bool) → kept (cond b (Some new) (map.get m.keys q)) ≡ cond b (kept (Some new)) (durable_keys m q)
+    both : (b : Bool) → kept (cond b (Some new) (map_get m.keys q)) ≡ cond b (kept (Some new)) (durable_keys m q)
     both true = refl
     both false = refl
 
@@ -56,7 +52,7 @@ module _ (m : model.Store) (caller : ℕ) (recorded : Attributes) (bytes : List 
     own = ap (λ b. cond b None (Some (stored new.number new.attributes new.bytes))) is
 
     same : (b : Bool) → (q == id) ≡ b → cond b (kept (Some new)) (durable_keys m q) ≡ durable_keys m q
-    same true at = own ∙ sym (ap kept (ap (map.get m.keys) (eqb-true q id at) ∙ none_here))
+    same true at = own ∙ sym (ap kept (ap (map_get m.keys) (eqb-true q id at) ∙ none_here))
     same false at = refl
 
   pub persistent_kept : is_volatile recorded ≡ false → kept (Some new) ≡ Some (stored new.number new.attributes bytes)
@@ -64,22 +60,22 @@ module _ (m : model.Store) (caller : ℕ) (recorded : Attributes) (bytes : List 
 
   -- a persistent key has the identifier that was stated
   pub stated_here : is_volatile recorded ≡ false → id ≡ recorded.id.0
-  stated_here is = ap (λ b. cond b (model.next_volatile m caller) recorded.id.0) is
+  stated_here is = ap (λ b. cond b (next_volatile m caller) recorded.id.0) is
 
   pub named_as_stated : is_volatile recorded ≡ false → identified recorded id ≡ recorded
   named_as_stated is = ap (identified recorded) (stated_here is)
 
   low_here : is_volatile recorded ≡ false → (1 ≤ recorded.id.0) × (recorded.id.0 ≤ 0x3fffffff)
-  low_here is = subst (λ b. IsStated b recorded.id.0) is (stated_id recorded (length bytes) (model.has_secure_element m) may.checks)
+  low_here is = subst (λ b. IsStated b recorded.id.0) is (stated_id recorded (length bytes) (has_secure_element m) may.checks)
 
   -- THE COUNTS
 
-  counts : (p : ℕ → Bool) → map.len (map.retain_keys after.keys p) ≡ cond (p id) (map.len (map.retain_keys m.keys p) + 1) (map.len (map.retain_keys m.keys p))
+  counts : (p : ℕ → Bool) → map_len (retain_keys after.keys p) ≡ cond (p id) (map_len (retain_keys m.keys p) + 1) (map_len (retain_keys m.keys p))
   counts p = len_kept-insert p m.keys id new none_here
 
   module _ (is : is_volatile recorded ≡ true) where
-    pub volatile_id : id ≡ model.first_volatile caller + made_of m caller
-    volatile_id = ap (λ b. cond b (model.next_volatile m caller) recorded.id.0) is
+    pub volatile_id : id ≡ first_volatile caller + made_of m caller
+    volatile_id = ap (λ b. cond b (next_volatile m caller) recorded.id.0) is
 
     pub few_live : live_volatile m.keys caller < 16
     few_live = (room_of m caller recorded true is may.room).0
@@ -116,8 +112,8 @@ module _ (m : model.Store) (caller : ℕ) (recorded : Attributes) (bytes : List 
     ]
 
   module _ (is : is_volatile recorded ≡ false) where
-    pub none_stated : map.get m.keys recorded.id.0 ≡ None
-    none_stated = ap (map.get m.keys) (sym (stated_here is)) ∙ none_here
+    pub none_stated : map_get m.keys recorded.id.0 ≡ None
+    none_stated = ap (map_get m.keys) (sym (stated_here is)) ∙ none_here
 
     pub few_kept : count_persistent m.keys < 512
     few_kept = (room_of m caller recorded false is may.room).1
@@ -140,31 +136,31 @@ module _ (m : model.Store) (caller : ℕ) (recorded : Attributes) (bytes : List 
   -- THE DIRECTORY
 
   -- no cell has a volatile key
-  pub directory_same : (slots : List cell.CellState) → is_volatile recorded ≡ true → IsDirectory slots m → IsDirectory slots after
+  pub directory_same : (slots : List CellState) → is_volatile recorded ≡ true → IsDirectory slots m → IsDirectory slots after
   directory_same slots is d = record {
     sized = d.sized;
     there = λ q k e lasts. in_cell q k (old_or_new q k e) lasts;
     only = λ c q number lt at. let k = d.only c q number lt at in (k.0, put_other q (λ same. not_new q k.0 k.1 same) ∙ k.1, k.2, k.3);
     one = d.one;
   } where
-    not_new : (q : ℕ) (k : Key) → map.get m.keys q ≡ Some k → q ≡ id → ⊥
-    not_new q k e same = none-some k (sym none_here ∙ (ap (map.get m.keys) (sym same) ∙ e))
+    not_new : (q : ℕ) (k : Key) → map_get m.keys q ≡ Some k → q ≡ id → ⊥
+    not_new q k e same = none-some k (sym none_here ∙ (ap (map_get m.keys) (sym same) ∙ e))
 
     in_cell : (q : ℕ) (k : Key) → IsOldOrNew q k → is_volatile k.attributes ≡ false → (c : ℕ) × (c < 512) × (cell_state slots c ≡ Open q k.number)
     in_cell q k (inl here) lasts = absurd (false≢true (sym lasts ∙ (ap (λ (x : Key). is_volatile x.attributes) (sym here.1) ∙ is)))
     in_cell q k (inr old) lasts = d.there q k old.1 lasts
 
   -- a persistent one has the first cell that had none
-  module _ (slots slots' : List cell.CellState) (c : ℕ) (is : is_volatile recorded ≡ false) (d : IsDirectory slots m) (without : IsFirstWithoutKey slots c) (sized : length slots' ≡ 512)
+  module _ (slots slots' : List CellState) (c : ℕ) (is : is_volatile recorded ≡ false) (d : IsDirectory slots m) (without : IsFirstWithoutKey slots c) (sized : length slots' ≡ 512)
       (placed : slots' ≡ set (settled_states slots) c (Open recorded.id.0 (m.found + m.calls))) where
     inside : c < length (settled_states slots)
     inside = let lt = without.within in omega (arith, lt, length-map slots settled_state)
 
     at_c : cell_state slots' c ≡ Open recorded.id.0 (m.found + m.calls)
-    at_c = ap (λ (l : List cell.CellState). cell_state l c) placed ∙ get_or-set_same (settled_states slots) c (Open recorded.id.0 (m.found + m.calls)) Free inside
+    at_c = ap (λ (l : List CellState). cell_state l c) placed ∙ get_or-set_same (settled_states slots) c (Open recorded.id.0 (m.found + m.calls)) Free inside
 
     elsewhere : (other : ℕ) → other ≢ c → cell_state slots' other ≡ settled_state (cell_state slots other)
-    elsewhere other differ = ap (λ (l : List cell.CellState). cell_state l other) placed ∙ (get_or-set_other (settled_states slots) c other (Open recorded.id.0 (m.found + m.calls)) Free differ ∙ settled_at slots other)
+    elsewhere other differ = ap (λ (l : List CellState). cell_state l other) placed ∙ (get_or-set_other (settled_states slots) c other (Open recorded.id.0 (m.found + m.calls)) Free differ ∙ settled_at slots other)
 
     opens_twice : (q n r k : ℕ) → Open q n ≡ Open r k → (q ≡ r) × (n ≡ k)
     opens_twice q n r k e = (cc, cc)
@@ -183,8 +179,8 @@ module _ (m : model.Store) (caller : ℕ) (recorded : Attributes) (bytes : List 
     not_first : (x q n : ℕ) → cell_state slots x ≡ Open q n → x ≢ c
     not_first x q n at same = false≢true (sym without.here ∙ (ap (λ k. is_open (cell_state slots k)) (sym same) ∙ ap is_open at))
 
-    not_new : (q : ℕ) (k : Key) → map.get m.keys q ≡ Some k → q ≢ recorded.id.0
-    not_new q k e same = none-some k (sym (none_stated is) ∙ (ap (map.get m.keys) (sym same) ∙ e))
+    not_new : (q : ℕ) (k : Key) → map_get m.keys q ≡ Some k → q ≢ recorded.id.0
+    not_new q k e same = none-some k (sym (none_stated is) ∙ (ap (map_get m.keys) (sym same) ∙ e))
 
     pub directory_placed : IsDirectory slots' after
     directory_placed = record {
@@ -199,7 +195,7 @@ module _ (m : model.Store) (caller : ℕ) (recorded : Attributes) (bytes : List 
       in_cell q k (inr old) lasts = let x = d.there q k old.1 lasts in (x.0, x.1, elsewhere x.0 (not_first x.0 q k.number x.2) ∙ ap settled_state x.2)
 
       of_cell : (x q n : ℕ) → x < 512 → IsOpenCell x q n → HasCellKey after q n
-      of_cell x q n lt (inl here) = (new, ap (map.get after.keys) (here.1 ∙ sym (stated_here is)) ∙ put_here, is, sym here.2)
+      of_cell x q n lt (inl here) = (new, ap (map_get after.keys) (here.1 ∙ sym (stated_here is)) ∙ put_here, is, sym here.2)
       of_cell x q n lt (inr old) = let k = d.only x q n lt old.1 in (k.0, put_other q (λ same. not_new q k.0 k.1 (same ∙ stated_here is)) ∙ k.1, k.2, k.3)
 
       same_cell : (x other q n another : ℕ) → x < 512 → other < 512 → IsOpenCell x q n → IsOpenCell other q another → x ≡ other
@@ -224,10 +220,10 @@ module _ (m : model.Store) (caller : ℕ) (recorded : Attributes) (bytes : List 
   own_key = record { key_type = recorded.key_type.0; bytes = bytes }
 
   held_here : (held : HeldKeys) (number : ℕ) → held_key (with_held_key number own_key held) number ≡ Some own_key
-  held_here held number = map.get-insert nat_cmp_total held number own_key number ∙ ap (λ b. cond b (Some own_key) (held_key held number)) (unsigned_tied number number ∙ eq-eqb number number refl)
+  held_here held number = map_get-insert nat_cmp_total held number own_key number ∙ ap (λ b. cond b (Some own_key) (held_key held number)) (unsigned_tied number number ∙ eq-eqb number number refl)
 
   held_other : (held : HeldKeys) (number handle : ℕ) → handle ≢ number → held_key (with_held_key number own_key held) handle ≡ held_key held handle
-  held_other held number handle differ = map.get-insert nat_cmp_total held number own_key handle ∙ ap (λ b. cond b (Some own_key) (held_key held handle)) (unsigned_tied handle number ∙ ne_eqb handle number differ)
+  held_other held number handle differ = map_get-insert nat_cmp_total held number own_key handle ∙ ap (λ b. cond b (Some own_key) (held_key held handle)) (unsigned_tied handle number ∙ ne_eqb handle number differ)
 
   others_held : (held : Option HeldKeys) (number handle : ℕ) (P : HeldKey → Type 0) → handle ≢ number → HoldsHandle held handle P → HoldsHandle (option_map (with_held_key number own_key) held) handle P
   others_held None number handle P differ is = tt

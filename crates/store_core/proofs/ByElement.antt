@@ -1,12 +1,6 @@
 -- Turns in which the secure element computes.
-use Rattle.std.proofs.Common.{inl, Bool, Err, IsErrOf, IsTrue, List, MatchOption, None, Ok, Option, Result, Some, [], ap, cond, false, is_some, length, not, refl, subst, sym, true, ℕ, ◌&&◌, ◌++◌, ◌==◌, ◌||◌, ◌∙◌, ◌∷◌, ◌≡◌}
-use Rattle.store_core.proofs.Common.{algorithm_asked, all_rows, AnswersCall, attribute_rows, Attributes, buffer_after, Call, checked, class_asked, Corrupt, counted, Disk, element_reply, Entry, eqb-true, Failed, false_from_ne_true, false≢true, FaultCounts, FaultMark, filled, first_row, first_row-back, first_row-front, fits_type, Hardware, has_secure_element, HasFault, held_key, HeldKey, HeldKeys, HoldsHandle, identified, InvalidHandle, is_opaque, is_opaque_key, is_persistent_key, is_volatile, IsComputed, IsElementAnswered, IsEntry, IsOfElement, IsRefused, IsSomeKey, IsSoundStore, IsTold, IsVolatileKey, Key, key_rows, KeyUse, last_counts, location, mark_computed, marked_reply, may_change_keys, MayBeMarked, Missing, model_call, none_holds, not-false, OnStore, Opening, Pairs, persistence, refusal, Refused, replay, reply_on, reply_to, reply_unless, Rose, rows_before, Service, StandsFor, Status, status_of, Store, true_from_ne_false, unless, unless-ok, Unread, usage_asked, use_refusal, use_rows}
-use Rattle.disk_face.specs.declared.Disk as Disk
-use Rattle.driver_dispatch.specs.declared.devices.Devices as Devices
-use Rattle.admission.specs.declared.rules.Admission as Admission
-use Rattle.std.specs.FinMap as map
+use Rattle.store_core.proofs.Common.{[], AdmissionGhosts, algorithm_asked, all_rows, AnswersCall, ap, attribute_rows, Attributes, Bool, buffer_after, Call, checked, class_asked, cond, Corrupt, counted, DevicesGhosts, Disk, DiskGhosts, element_reply, Entry, eqb-true, Err, Failed, false, false_from_ne_true, false≢true, FaultCounts, FaultMark, filled, first_row, first_row-back, first_row-front, fits_type, Hardware, has_secure_element, HasFault, held_key, HeldKey, HeldKeys, HoldsHandle, identified, inl, InvalidHandle, is_opaque, is_opaque_key, is_persistent_key, is_some, is_volatile, IsComputed, IsElementAnswered, IsEntry, IsErrOf, IsOfElement, IsRefused, IsSomeKey, IsSoundStore, IsTold, IsTrue, IsVolatileKey, Key, key_rows, KeyUse, last_counts, length, List, location, map_get, mark_computed, marked_reply, MatchOption, may_change_keys, MayBeMarked, Missing, Model, model_call, None, none_holds, not, not-false, Ok, OnStore, Opening, Option, Pairs, persistence, refl, refusal, Refused, replay, reply_on, reply_to, reply_unless, Result, Rose, rows_before, Service, Some, StandsFor, Status, status_of, Store, subst, sym, true, true_from_ne_false, unless, unless-ok, Unread, usage_asked, use_refusal, use_rows, ℕ, ◌&&◌, ◌++◌, ◌==◌, ◌||◌, ◌∙◌, ◌∷◌, ◌≡◌}
 use Rattle.alg_encoding.specs.declared.table.Class.{Class}
-use Rattle.store_model.specs.Store as model
 use Rattle.secure_element_calls.specs.declared.calls.ElementCall.{ElementCall}
 use Rattle.secure_element_calls.specs.declared.calls.ElementCall.TheVariants.{MacCompute, MacVerify, CtrEncrypt, CtrDecrypt}
 use Rattle.secure_element_calls.specs.declared.calls.NotComputed.{NotComputed}
@@ -32,7 +26,7 @@ stays_local false true one lasts driver a b e = cc
 stays_local false false one true driver a b e = cc
 stays_local false false one false driver a b e = cc
 
-pub opaque_is_volatile : (m : model.Store) (id : ℕ) (key : Key) → map.get m.keys id ≡ Some key → IsSoundStore m → is_opaque key.attributes ≡ true → is_volatile key.attributes ≡ true
+pub opaque_is_volatile : (m : Model) (id : ℕ) (key : Key) → map_get m.keys id ≡ Some key → IsSoundStore m → is_opaque key.attributes ≡ true → is_volatile key.attributes ≡ true
 opaque_is_volatile m id key there sound opaque = true_from_ne_false (is_volatile key.attributes) (λ lasts.
     let a : Attributes = key.attributes in
     let n : ℕ = length key.bytes in
@@ -42,23 +36,23 @@ opaque_is_volatile m id key there sound opaque = true_from_ne_false (is_volatile
     stays_local (persistence a.lifetime.0 == 0) (location a.lifetime.0 == 0) (location a.lifetime.0 == 1) (persistence a.lifetime.0 == 1) driver lasts (ap (λ l. l == 0) (eqb-true (location a.lifetime.0) 1 opaque)) row)
 
 -- so it has a slot
-pub has_slot : (m : model.Store) (id : ℕ) → IsSoundStore m → is_opaque_key (map.get m.keys id) ≡ true → IsVolatileKey (map.get m.keys id)
-has_slot m id sound opaque = by_key (map.get m.keys id) refl opaque
+pub has_slot : (m : Model) (id : ℕ) → IsSoundStore m → is_opaque_key (map_get m.keys id) ≡ true → IsVolatileKey (map_get m.keys id)
+has_slot m id sound opaque = by_key (map_get m.keys id) refl opaque
   where
-    by_key : (o : Option Key) → map.get m.keys id ≡ o → is_opaque_key o ≡ true → IsVolatileKey o
+    by_key : (o : Option Key) → map_get m.keys id ≡ o → is_opaque_key o ≡ true → IsVolatileKey o
     by_key None there opaque = cc
     by_key (Some key) there opaque = opaque_is_volatile m id key there sound opaque
 
 -- a key of which no slot has a volatile one isn't the element's
-pub not_opaque : (m : model.Store) (id : ℕ) → IsSoundStore m → (IsVolatileKey (map.get m.keys id) → ⊥) → is_opaque_key (map.get m.keys id) ≡ false
-not_opaque m id sound none = false_from_ne_true (is_opaque_key (map.get m.keys id)) (λ opaque. none (has_slot m id sound opaque))
+pub not_opaque : (m : Model) (id : ℕ) → IsSoundStore m → (IsVolatileKey (map_get m.keys id) → ⊥) → is_opaque_key (map_get m.keys id) ≡ false
+not_opaque m id sound none = false_from_ne_true (is_opaque_key (map_get m.keys id)) (λ opaque. none (has_slot m id sound opaque))
 
 -- nor is that of a look which was refused before its key was found
-module _ (wanted : KeyUse) (id : ℕ) (m : model.Store) (sound : IsSoundStore m) where
-  not_of : (key : Key) → map.get m.keys id ≡ Some key → is_opaque key.attributes ≡ true → (why : Unread) → IsRefused (use_refusal wanted) id (status_of why) m → ⊥
+module _ (wanted : KeyUse) (id : ℕ) (m : Model) (sound : IsSoundStore m) where
+  not_of : (key : Key) → map_get m.keys id ≡ Some key → is_opaque key.attributes ≡ true → (why : Unread) → IsRefused (use_refusal wanted) id (status_of why) m → ⊥
   not_of key there opaque why refused = by why refused
     where
-      lasts : is_persistent_key (map.get m.keys id) ≡ true → ⊥
+      lasts : is_persistent_key (map_get m.keys id) ≡ true → ⊥
       lasts persistent = false≢true (sym (ap not (opaque_is_volatile m id key there sound opaque)) ∙ (sym (ap is_persistent_key there) ∙ persistent))
 
       by : (why : Unread) → IsRefused (use_refusal wanted) id (status_of why) m → ⊥
@@ -66,10 +60,10 @@ module _ (wanted : KeyUse) (id : ℕ) (m : model.Store) (sound : IsSoundStore m)
       by Disk persistent = lasts persistent
       by Corrupt persistent = lasts persistent
 
-  pub unread_local : (why : Unread) → IsRefused (use_refusal wanted) id (status_of why) m → is_opaque_key (map.get m.keys id) ≡ true → ⊥
-  unread_local why refused opaque = by (map.get m.keys id) refl opaque
+  pub unread_local : (why : Unread) → IsRefused (use_refusal wanted) id (status_of why) m → is_opaque_key (map_get m.keys id) ≡ true → ⊥
+  unread_local why refused opaque = by (map_get m.keys id) refl opaque
     where
-      by : (o : Option Key) → map.get m.keys id ≡ o → is_opaque_key o ≡ true → ⊥
+      by : (o : Option Key) → map_get m.keys id ≡ o → is_opaque_key o ≡ true → ⊥
       by None there is = cc
       by (Some key) there is = not_of key there is why refused
 
@@ -102,14 +96,14 @@ abbrev pub held_of : Key → HeldKey
 held_of key = record { key_type = key.attributes.key_type.0; bytes = key.bytes }
 
 -- what the element computed is the answer
-pub answered : (held : Option HeldKeys) (id : ℕ) (call : ElementCall) (old new : List ℕ) (result : Result ℕ NotComputed) (m : model.Store) (key : Key) (handle : ℕ) →
-    is_opaque_key (map.get m.keys id) ≡ true → map.get m.keys id ≡ Some key → HoldsHandle held handle (λ h. h ≡ held_of key) → first_row (key_rows call (Some key)) ≡ None →
+pub answered : (held : Option HeldKeys) (id : ℕ) (call : ElementCall) (old new : List ℕ) (result : Result ℕ NotComputed) (m : Model) (key : Key) (handle : ℕ) →
+    is_opaque_key (map_get m.keys id) ≡ true → map_get m.keys id ≡ Some key → HoldsHandle held handle (λ h. h ≡ held_of key) → first_row (key_rows call (Some key)) ≡ None →
     IsComputed held handle call old new result → IsElementAnswered held id call old new result m
 answered held id call old new result m key handle opaque there is none computed =
     let room : ℕ = length old in
-    let rows : first_row (rows_before call room) ≡ first_row (all_rows call room (map.get m.keys id)) =
+    let rows : first_row (rows_before call room) ≡ first_row (all_rows call room (map_get m.keys id)) =
     sym (first_row-back (key_rows call (Some key)) (rows_before call room) none) ∙ ap (λ found. first_row (all_rows call room found)) (sym there) in
-    let reply : reply_to call result key.bytes room ≡ marked_reply (mark_computed result) (reply_on call room (map.get m.keys id)) =
+    let reply : reply_to call result key.bytes room ≡ marked_reply (mark_computed result) (reply_on call room (map_get m.keys id)) =
     ap (marked_reply (mark_computed result)) (ap (λ o. reply_unless o (element_reply call key.bytes room)) (sym none) ∙ ap (reply_on call room) (sym there)) in
     record {
       opaque = opaque;
@@ -122,14 +116,14 @@ answered held id call old new result m key handle opaque there is none computed 
     }
 
 -- a row of the key refuses
-pub unused : (held : Option HeldKeys) (id : ℕ) (call : ElementCall) (old : List ℕ) (m : model.Store) (key : Key) (status : Status) →
-    is_opaque_key (map.get m.keys id) ≡ true → map.get m.keys id ≡ Some key → first_row (key_rows call (Some key)) ≡ Some status → IsElementAnswered held id call old old (Err (Refused status)) m
+pub unused : (held : Option HeldKeys) (id : ℕ) (call : ElementCall) (old : List ℕ) (m : Model) (key : Key) (status : Status) →
+    is_opaque_key (map_get m.keys id) ≡ true → map_get m.keys id ≡ Some key → first_row (key_rows call (Some key)) ≡ Some status → IsElementAnswered held id call old old (Err (Refused status)) m
 unused held id call old m key status opaque there refused =
     let room : ℕ = length old in
     let result : Result ℕ NotComputed = Err (Refused status) in
-    let rows : Some status ≡ first_row (all_rows call room (map.get m.keys id)) =
+    let rows : Some status ≡ first_row (all_rows call room (map_get m.keys id)) =
     sym (first_row-front (key_rows call (Some key)) (rows_before call room) status refused) ∙ ap (λ found. first_row (all_rows call room found)) (sym there) in
-    let reply : refusal status ≡ reply_on call room (map.get m.keys id) =
+    let reply : refusal status ≡ reply_on call room (map_get m.keys id) =
     ap (λ o. reply_unless o (element_reply call key.bytes room)) (sym refused) ∙ ap (reply_on call room) (sym there) in
     record {
       opaque = opaque;
@@ -143,7 +137,7 @@ unused held id call old m key status opaque there refused =
 
 -- THE TURN
 
-module _ {D A C : Type 0} (disks : Disk.Ghosts D) (elements : Devices.Ghosts A) (admits : Admission.Ghosts C)
+module _ {D A C : Type 0} (disks : DiskGhosts D) (elements : DevicesGhosts A) (admits : AdmissionGhosts C)
     (only_now : (disk : D) (image : List ℕ) → disks.left_since disk (disks.moment disk) image → disks.may_leave disk image)
     (old : Store D A C) (devices : A) (start : Service) (opening : Opening) (h : List Entry) (all : List Pairs) (e : Entry) where
   -- with what a device is that computed
@@ -157,7 +151,7 @@ module _ {D A C : Type 0} (disks : Disk.Ghosts D) (elements : Devices.Ghosts A) 
   Known = IsTold (disks.contents old.file.cells.disk) start (h ++ e ∷ [])
 
   -- a turn ends in which the element was asked or not
-  pub ends_computed : (call : Call) (mark : FaultMark) (P : model.Store → Type 0) → (s : StandsFor disks elements admits old start opening h all) →
+  pub ends_computed : (call : Call) (mark : FaultMark) (P : Model → Type 0) → (s : StandsFor disks elements admits old start opening h all) →
       e.call ≡ OnStore call → may_change_keys (OnStore call) ≡ false → elements.keys devices ≡ elements.keys old.devices → elements.locations devices ≡ elements.locations old.devices →
       HasFault (is_some (disks.contents old.file.cells.disk)) (last_counts opening.counts h) e mark →
       ((service : Service) → service.store ≡ s.holds.model → MayBeMarked service e.caller (OnStore call) mark) → P (counted s.holds.model) →
@@ -171,7 +165,7 @@ module _ {D A C : Type 0} (disks : Disk.Ghosts D) (elements : Devices.Ghosts A) 
       (ends.0, subst P (sym (ends.1 ∙ ap counted d.1)) holds)
 
 -- the element failed
-pub may_fail : (service : Service) (caller id room : ℕ) (call : ElementCall) → is_opaque_key (map.get service.store.keys id) ≡ true → first_row (all_rows call room (map.get service.store.keys id)) ≡ None →
+pub may_fail : (service : Service) (caller id room : ℕ) (call : ElementCall) → is_opaque_key (map_get service.store.keys id) ≡ true → first_row (all_rows call room (map_get service.store.keys id)) ≡ None →
     MayBeMarked service caller (OnStore (model_call call id room)) Hardware
 may_fail service caller id room call opaque none = either _ _ (asks service caller id room call opaque none)
   where
@@ -189,13 +183,13 @@ fault_of (Ok n) tells before e rose = tt
 fault_of (Err (Refused status)) tells before e rose = tt
 fault_of (Err Failed) tells before e rose = rose refl
 
-pub mark_may : (held : Option HeldKeys) (id : ℕ) (call : ElementCall) (old new : List ℕ) (result : Result ℕ NotComputed) (m : model.Store) → IsElementAnswered held id call old new result m →
-    is_opaque_key (map.get m.keys id) ≡ true → (service : Service) (caller : ℕ) → service.store ≡ m → MayBeMarked service caller (OnStore (model_call call id (length old))) (mark_computed result)
+pub mark_may : (held : Option HeldKeys) (id : ℕ) (call : ElementCall) (old new : List ℕ) (result : Result ℕ NotComputed) (m : Model) → IsElementAnswered held id call old new result m →
+    is_opaque_key (map_get m.keys id) ≡ true → (service : Service) (caller : ℕ) → service.store ≡ m → MayBeMarked service caller (OnStore (model_call call id (length old))) (mark_computed result)
 mark_may held id call old now (Ok n) m answer opaque service caller is = tt
 mark_may held id call old now (Err (Refused status)) m answer opaque service caller is = tt
 mark_may held id call old now (Err Failed) m answer opaque service caller is =
-    may_fail service caller id (length old) call (subst (λ (x : model.Store). is_opaque_key (map.get x.keys id) ≡ true) (sym is) opaque)
-    (subst (λ (x : model.Store). first_row (all_rows call (length old) (map.get x.keys id)) ≡ None) (sym is) (unrefused (first_row (all_rows call (length old) (map.get m.keys id))) (IsOfElement call (Err Failed)) (Err Failed) refl answer.decided))
+    may_fail service caller id (length old) call (subst (λ (x : Model). is_opaque_key (map_get x.keys id) ≡ true) (sym is) opaque)
+    (subst (λ (x : Model). first_row (all_rows call (length old) (map_get x.keys id)) ≡ None) (sym is) (unrefused (first_row (all_rows call (length old) (map_get m.keys id))) (IsOfElement call (Err Failed)) (Err Failed) refl answer.decided))
 
 -- what was checked are the key's rows
 pub checked_rows : (call : ElementCall) (key : Key) (class : Class) (usage alg : ℕ) (result : Result (Unit {0}) Status) → class ≡ class_asked call → usage ≡ usage_asked call → alg ≡ algorithm_asked call →

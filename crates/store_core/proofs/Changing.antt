@@ -1,10 +1,5 @@
 -- A ranked turn that changes keys.
-use Rattle.std.proofs.Common.{List, Option, [], ap, arith, false, inl, inr, is_some, length-append, slice_index, subst, sym, true, ℕ, ⊎_elim, ◌++◌, ◌+◌, ◌<◌, ◌∙◌, ◌∷◌, ◌≡◌, ◌≤◌, ◌⊎◌, None, refl}
-use Rattle.store_core.proofs.Common.{after, Agrees, allowed_go_on, AreHoldings, cell_state, ChangesFreed, count_persistent, counted, counted_sound, Course, course_of, doubt_after, durable_keys, Entry, FaultCounts, FaultMark, FitsCourse, FitsKeys, Free, go_on, HasFault, HasZeros, HaveFreed, Holds, HoldsKeys, is_destruction, is_persistent_key, IsCaused, IsDirectory, IsEntry, IsFreeSince, IsSoundStore, IsSure, IsTold, key_changed, KeyFile, KeySlots, last_counts, Leads, LeavesKeys, live_volatile, MayBeMarked, opened, Opening, outcome_of, Pairs, Plain, promise_goes_on, quiet, replay, Service, stands_fits, StandsFor, StandsForKeys, stays, Store, Within, ⊤}
-use Rattle.disk_face.specs.declared.Disk as Disk
-use Rattle.driver_dispatch.specs.declared.devices.Devices as Devices
-use Rattle.admission.specs.declared.rules.Admission as Admission
-use Rattle.store_model.specs.Store as model
+use Rattle.store_core.proofs.Common.{[], AdmissionGhosts, after, Agrees, allowed_go_on, ap, AreHoldings, arith, cell_state, ChangesFreed, count_persistent, counted, counted_sound, Course, course_of, DevicesGhosts, DiskGhosts, doubt_after, durable_keys, Entry, false, FaultCounts, FaultMark, FitsCourse, FitsKeys, Free, go_on, HasFault, HasZeros, HaveFreed, Holds, HoldsKeys, inl, inr, is_destruction, is_persistent_key, is_some, IsCaused, IsDirectory, IsEntry, IsFreeSince, IsSoundStore, IsSure, IsTold, key_changed, KeyFile, KeySlots, last_counts, Leads, LeavesKeys, length-append, List, live_volatile, MayBeMarked, Model, None, opened, Opening, Option, outcome_of, Pairs, Plain, promise_goes_on, quiet, refl, replay, Service, slice_index, stands_fits, StandsFor, StandsForKeys, stays, Store, subst, sym, true, Within, ℕ, ⊎_elim, ⊤, ◌++◌, ◌+◌, ◌<◌, ◌∙◌, ◌∷◌, ◌≡◌, ◌≤◌, ◌⊎◌}
 use Rattle.store_core.proofs.Histories.{replay_push, counts_push, told_before, course_service, course_push, quiet_doubt}
 use Rattle.store_core.proofs.Holding.{counts_of, same_device, same_directory, turned}
 use Rattle.store_core.proofs.Wiped.{shows_free}
@@ -21,9 +16,9 @@ pub record IsRankedOn {D A C : Type 0} (old new : Store D A C) : Type 0 where
   pub found : new.found ≡ old.found
   pub ranked : new.ranked ≡ old.ranked + 1
 
-module _ {D A C : Type 0} (disks : Disk.Ghosts D) (elements : Devices.Ghosts A) (admits : Admission.Ghosts C) where
+module _ {D A C : Type 0} (disks : DiskGhosts D) (elements : DevicesGhosts A) (admits : AdmissionGhosts C) where
   -- what a ranked turn makes of a store, and of the model that it holds, where S holds of the service before it
-  pub record Turns (S : Service → Type 0) (old new : Store D A C) (all : List Pairs) (e : Entry) (mark : FaultMark) (before : FaultCounts) (m m' : model.Store) : Type 0 where
+  pub record Turns (S : Service → Type 0) (old new : Store D A C) (all : List Pairs) (e : Entry) (mark : FaultMark) (before : FaultCounts) (m m' : Model) : Type 0 where
     pub becomes : (service : Service) → S service → m ≡ service.store → m' ≡ (outcome_of service e).service.store
     pub sound : IsSoundStore m'
     pub counts : m' ≡ record (counted m) { keys = m'.keys; made = m'.made }
@@ -47,10 +42,10 @@ module _ {D A C : Type 0} (disks : Disk.Ghosts D) (elements : Devices.Ghosts A) 
     pub may : (service : Service) → S service → m ≡ service.store → MayBeMarked service e.caller e.call mark
 
   module _ (only_now : (disk : D) (image : List ℕ) → disks.left_since disk (disks.moment disk) image → disks.may_leave disk image)
-      (S : Service → Type 0) (K : Type 0) (old new : Store D A C) (start : Service) (opening : Opening) (h : List Entry) (all more : List Pairs) (e : Entry) (mark : FaultMark) (m' : model.Store)
+      (S : Service → Type 0) (K : Type 0) (old new : Store D A C) (start : Service) (opening : Opening) (h : List Entry) (all more : List Pairs) (e : Entry) (mark : FaultMark) (m' : Model)
       (s : Holds disks elements admits K old start opening h all) (know : IsTold (disks.contents new.file.cells.disk) start (h ++ e ∷ []) → K)
       (holds_before : IsTold (disks.contents new.file.cells.disk) start (h ++ e ∷ []) → S (replay start h)) (t : Turns S old new more e mark (last_counts opening.counts h) s.model m') where
-    abbrev m : model.Store
+    abbrev m : Model
     m = s.model
 
     abbrev past : D
@@ -85,10 +80,10 @@ module _ {D A C : Type 0} (disks : Disk.Ghosts D) (elements : Devices.Ghosts A) 
       leads_here = t.leads course before_course of_course (s.file (tells_before is))
 
       fits_old : (image : List ℕ) → FitsKeys (durable_keys m) course.doubt image → FitsCourse course image
-      fits_old image fits = subst (λ (x : model.Store). FitsKeys (durable_keys x) course.doubt image) of_course fits
+      fits_old image fits = subst (λ (x : Model). FitsKeys (durable_keys x) course.doubt image) of_course fits
 
       fits_new : (image : List ℕ) → FitsKeys (durable_keys m') (doubt_after e course) image → FitsCourse (after e course) image
-      fits_new image fits = subst (λ (x : model.Store). FitsKeys (durable_keys x) (doubt_after e course) image) after_course fits
+      fits_new image fits = subst (λ (x : Model). FitsKeys (durable_keys x) (doubt_after e course) image) after_course fits
 
       within_here : Within (disks.moment past) (disks.moment now) (disks.left_since past) (disks.left_since now) (λ image. FitsCourse course image ⊎ FitsCourse (after e course) image)
       within_here = record {
@@ -127,12 +122,12 @@ module _ {D A C : Type 0} (disks : Disk.Ghosts D) (elements : Devices.Ghosts A) 
           model = m';
           replayed = λ k. t.becomes (replay start h) (holds_before k) (s.replayed (know k)) ∙ ap (λ (x : Service). x.store) (sym (replay_push start h e));
           sound = t.sound;
-          settings = ap (λ (x : model.Store). x.settings) t.counts ∙ s.settings;
-          labels_are = ap (λ (x : model.Store). x.settings.labels) t.counts ∙ (s.labels_are ∙ sym (ap admits.labels t.goes_on.rules));
-          locations_are = ap (λ (x : model.Store). x.settings.locations) t.counts ∙ (s.locations_are ∙ sym t.places);
-          found = ap (λ (x : model.Store). x.found) t.counts ∙ (s.found ∙ sym t.goes_on.found);
+          settings = ap (λ (x : Model). x.settings) t.counts ∙ s.settings;
+          labels_are = ap (λ (x : Model). x.settings.labels) t.counts ∙ (s.labels_are ∙ sym (ap admits.labels t.goes_on.rules));
+          locations_are = ap (λ (x : Model). x.settings.locations) t.counts ∙ (s.locations_are ∙ sym t.places);
+          found = ap (λ (x : Model). x.found) t.counts ∙ (s.found ∙ sym t.goes_on.found);
           few = subst (λ n. n ≤ 512) (sym t.goes_on.found) s.few;
-          calls = ap (λ (x : model.Store). x.calls) t.counts ∙ (ap (λ n. n + 1) s.calls ∙ sym t.goes_on.ranked);
+          calls = ap (λ (x : Model). x.calls) t.counts ∙ (ap (λ n. n + 1) s.calls ∙ sym t.goes_on.ranked);
           made = t.made;
           live = t.live;
           kept = t.kept;
@@ -153,7 +148,7 @@ module _ {D A C : Type 0} (disks : Disk.Ghosts D) (elements : Devices.Ghosts A) 
 
   -- a turn of a store that stands for something, whatever the service before it is
   module _ (only_now : (disk : D) (image : List ℕ) → disks.left_since disk (disks.moment disk) image → disks.may_leave disk image)
-      (old new : Store D A C) (start : Service) (opening : Opening) (h : List Entry) (all more : List Pairs) (e : Entry) (mark : FaultMark) (m' : model.Store)
+      (old new : Store D A C) (start : Service) (opening : Opening) (h : List Entry) (all more : List Pairs) (e : Entry) (mark : FaultMark) (m' : Model)
       (s : StandsFor disks elements admits old start opening h all) where
     pub turns_standing : Turns (λ service. ⊤) old new more e mark (counts_of (disks.faults old.file.cells.disk) (elements.faults old.devices)) s.holds.model m' →
         IsEntry disks elements admits new mark e → StandsFor disks elements admits new start opening (h ++ e ∷ []) more
@@ -162,7 +157,7 @@ module _ {D A C : Type 0} (disks : Disk.Ghosts D) (elements : Devices.Ghosts A) 
         (λ k. retold (disks.contents old.file.cells.disk) (disks.contents new.file.cells.disk) start h t.tells (told_before (disks.contents new.file.cells.disk) start h e k)) (λ k. tt)
         (subst (λ (c : FaultCounts). Turns (λ service. ⊤) old new more e mark c s.holds.model m') (sym s.counts) t) is).0
 
-module _ {D A C : Type 0} (disks : Disk.Ghosts D) (elements : Devices.Ghosts A) (admits : Admission.Ghosts C)
+module _ {D A C : Type 0} (disks : DiskGhosts D) (elements : DevicesGhosts A) (admits : AdmissionGhosts C)
     (only_now : (disk : D) (image : List ℕ) → disks.left_since disk (disks.moment disk) image → disks.may_leave disk image)
     {old : Store D A C} {start : Service} {opening : Opening} {h : List Entry} {all : List Pairs} (e : Entry) where
   -- a turn that changes no key

@@ -1,11 +1,7 @@
 -- What the table of creations has decided of a key that is to be made.
-use Rattle.std.proofs.Common.{⊎_elim, sym, ne_eqb, Bool, List, None, Ok, Some, ap, arith, bit_and, cond, eq-eqb, false, is_some, length, nat_lt, not, refl, subst, sym, true, ℕ, ◌%◌, ◌&&◌, ◌*◌, ◌/◌, ◌<◌, ◌==◌, ◌^◌, ◌||◌, ◌∙◌, ◌≡◌, ◌≢◌, ◌≤◌}
-use Rattle.store_core.proofs.Common.{Agrees, and_from, and_parts, attribute_rows, Attributes, cell_state, checked, count_persistent, creation_of_state, eqb-true, false_from_ne_true, false≢true, filled, first_row, full_within, has_id, has_secure_element, HasNoKey, holds_key, implied_usage, InvalidArgument, is_key_type, is_lifetime, is_opaque, is_open, is_volatile, IsDirectory, IsFull, IsKeyOf, IsSoundStore, IsStated, key_is_full, key_of_slot, location, low_id, lt-ltb, nat_tests, NoKey, none-some, none_holds, not-false, NotSupported, Open, or_cases, Pairs, permits_size, persistence, ranked, size_rows, Slot, slot_at, stated_id, unless, unless-ok}
+use Rattle.store_core.proofs.Common.{Agrees, and_from, and_parts, ap, arith, attribute_rows, Attributes, bit_and, Bool, cell_state, CellState, checked, cond, count_persistent, creation_of_state, eq-eqb, eqb-true, false, false_from_ne_true, false≢true, filled, first_row, full_within, has_id, has_secure_element, HasNoKey, holds_key, implied_usage, InvalidArgument, is_key_type, is_lifetime, is_opaque, is_open, is_some, is_volatile, IsDirectory, IsFull, IsKeyOf, IsSoundStore, IsStated, key_is_full, key_of_slot, length, List, location, low_id, lt-ltb, map_get, map_get-retain_keys, Model, nat_lt, nat_tests, ne_eqb, NoKey, None, none-some, none_holds, not, not-false, NotSupported, Ok, Open, or_cases, Pairs, permits_size, persistence, ranked, refl, retain_keys, size_rows, Slot, slot_at, Some, stated_id, subst, sym, true, unless, unless-ok, ℕ, ⊎_elim, ◌%◌, ◌&&◌, ◌*◌, ◌/◌, ◌<◌, ◌==◌, ◌^◌, ◌||◌, ◌∙◌, ◌≡◌, ◌≢◌, ◌≤◌}
 use Rattle.std.specs.declared.cmp.Ordering.TheVariants.{Equal}
-use Rattle.std.specs.FinMap as map
-use Rattle.key_cells.specs.declared.state.CellState as cell
 use Rattle.key_slots.proofs.Sums.{total-least, into_map}
-use Rattle.store_model.specs.Store as model
 use Rattle.store_core.proofs.Kept.{key_of_cell}
 use Rattle.store_core.proofs.Destroyed.{needs_element}
 
@@ -17,6 +13,9 @@ volatile_by a is = eq-eqb (a.lifetime.0 % 2 ^ 8) 0 is
 
 pub local_by : (a : Attributes) → a.lifetime.0 / 2 ^ 8 ≢ 1 → is_opaque a ≡ false
 local_by a is = ne_eqb (a.lifetime.0 / 2 ^ 8) 1 is
+
+pub opaque_by : (a : Attributes) → a.lifetime.0 / 2 ^ 8 ≡ 1 → is_opaque a ≡ true
+opaque_by a is = eq-eqb (a.lifetime.0 / 2 ^ 8) 1 is
 
 kept_lifetime : (l : ℕ) (driver : Bool) → (l % 2 ^ 8 == 0) ≡ false → is_lifetime l driver ≡ true → l ≡ 1
 kept_lifetime l driver lasts is =
@@ -77,14 +76,14 @@ module _ (a : Attributes) (bytes : List ℕ) (driver : Bool) (checks : checked a
 -- A KEY THAT ISN'T THERE
 
 -- no cell has it
-pub in_no_cell : (slots : List cell.CellState) (m : model.Store) (id : ℕ) → IsDirectory slots m → map.get m.keys id ≡ None → HasNoKey slots id
+pub in_no_cell : (slots : List CellState) (m : Model) (id : ℕ) → IsDirectory slots m → map_get m.keys id ≡ None → HasNoKey slots id
 in_no_cell slots m id d none c lt = false_from_ne_true (has_id id (cell_state slots c)) (λ has.
     let sized = d.sized in
     let key = key_of_cell slots m id c d (omega arith) has in
     none-some key.0 (sym none ∙ key.1))
 
 -- and no slot
-pub in_no_slot : (slots : List Slot) (m : model.Store) (all : List Pairs) (id : ℕ) → length slots ≡ 384 → Agrees slots m all → map.get m.keys id ≡ None → NoKey id slots
+pub in_no_slot : (slots : List Slot) (m : Model) (all : List Pairs) (id : ℕ) → length slots ≡ 384 → Agrees slots m all → map_get m.keys id ≡ None → NoKey id slots
 in_no_slot slots m all id sized agrees none i = false_from_ne_true (holds_key id (slot_at slots i)) (λ has.
     let key = key_of_slot slots m all id i agrees (inside i has) has in
     none-some key.0 (sym none ∙ key.1)) where
@@ -93,11 +92,11 @@ in_no_slot slots m all id sized agrees none i = false_from_ne_true (holds_key id
 
 -- A FULL DIRECTORY
 
-abbrev id_in : cell.CellState → ℕ
+abbrev id_in : CellState → ℕ
 id_in (Open id number) = id
 id_in slot = 0
 
-opens_so : (slot : cell.CellState) → is_open slot ≡ true → slot ≡ Open (id_in slot) (creation_of_state slot)
+opens_so : (slot : CellState) → is_open slot ≡ true → slot ≡ Open (id_in slot) (creation_of_state slot)
 opens_so (Open id number) is = refl
 opens_so slot is = absurd (false≢true is)
 
@@ -105,22 +104,22 @@ abbrev is_low : ℕ → Bool
 is_low n = nat_lt n 0x40000000
 
 -- where each cell has a key there are as many persistent keys as cells
-pub full_counts : (slots : List cell.CellState) (m : model.Store) → IsDirectory slots m → IsSoundStore m → IsFull slots → 512 ≤ count_persistent m.keys
+pub full_counts : (slots : List CellState) (m : Model) → IsDirectory slots m → IsSoundStore m → IsFull slots → 512 ≤ count_persistent m.keys
 full_counts slots m d sound full =
-    let fit = into_map (map.retain_keys m.keys is_low) (λ c. id_in (cell_state slots c)) (λ c. is_open (cell_state slots c)) 512 has one in
+    let fit = into_map (retain_keys m.keys is_low) (λ c. id_in (cell_state slots c)) (λ c. is_open (cell_state slots c)) 512 has one in
     let least = total-least (λ c. cond (is_open (cell_state slots c)) 1 0) 512 (λ c lt. let sized = d.sized in subst (λ b. 1 ≤ cond b 1 0) (sym (full c (omega arith))) (omega arith)) in
     omega arith where
-      kept : (q : ℕ) → map.get (map.retain_keys m.keys is_low) q ≡ cond (is_low q) (map.get m.keys q) None
-      kept q = map.get-retain_keys m.keys is_low q (λ x tied. ap is_low (sym (ranked q x Equal (sym tied))))
+      kept : (q : ℕ) → map_get (retain_keys m.keys is_low) q ≡ cond (is_low q) (map_get m.keys q) None
+      kept q = map_get-retain_keys m.keys is_low q (λ x tied. ap is_low (sym (ranked q x Equal (sym tied))))
 
-      has : (c : ℕ) → c < 512 → is_open (cell_state slots c) ≡ true → is_some (map.get (map.retain_keys m.keys is_low) (id_in (cell_state slots c))) ≡ true
+      has : (c : ℕ) → c < 512 → is_open (cell_state slots c) ≡ true → is_some (map_get (retain_keys m.keys is_low) (id_in (cell_state slots c))) ≡ true
       has c lt is =
           let id = id_in (cell_state slots c) in
           let key = d.only c id (creation_of_state (cell_state slots c)) lt (opens_so (cell_state slots c) is) in
           let k = sound.keys id key.0 key.1 in
           let most = (low_id key.0.attributes (length key.0.bytes) (has_secure_element m) k.attributes key.2).1 in
           let named = k.identifier in
-          ap is_some (kept id ∙ (ap (λ b. cond b (map.get m.keys id) None) (lt-ltb id 0x40000000 (omega arith)) ∙ key.1))
+          ap is_some (kept id ∙ (ap (λ b. cond b (map_get m.keys id) None) (lt-ltb id 0x40000000 (omega arith)) ∙ key.1))
 
       one : (c other : ℕ) → c < 512 → other < 512 → is_open (cell_state slots c) ≡ true → is_open (cell_state slots other) ≡ true → id_in (cell_state slots c) ≡ id_in (cell_state slots other) → c ≡ other
       one c other lt less is also same =

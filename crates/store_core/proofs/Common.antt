@@ -60,8 +60,14 @@ pub use Rattle.store_model.proofs.Live.{len_kept-empty, len_kept-insert}
 pub use Rattle.store_model.proofs.Recorded.{IsStated, MayBeKept, recorded, stated_id, then_ok}
 pub use Rattle.store_model.proofs.Sound.{counted_sound, created_sound, destroyed_sound, left, low_id, new_is_free, of_volatile, put, room_of, taken}
 pub use Rattle.store_model.proofs.Tables.{none_holds, refused_by}
-pub use Rattle.store_model.specs.Prelude.{AreFoundKeys, Call, Copy, Destroy, Entry, FaultCounts, FaultMark, GainsNothing, GetAttributes, Hardware, HasFault, HasNumber, IsCaused, IsSoundKey, IsSoundStore, IsVolatileOf, Key, KeyMap, MayBeMarked, OnHandle, OnStore, OpenedKey, Outcome, Plain, Reading, Reply, Request, Service, Settings, Storage, Writing, as_stated, asks_device, buffer_after, copy_attributes, count_persistent, counted, created, created_unless, decided, derivation_key_rows, destroy_rows, destroyed, export_rows, failed_step, first_volatile, fits_type, found_from, found_made, has_secure_element, id_read, identified, is_opaque, is_opaque_key, is_persistent_key, is_volatile, is_volatile_of, key_answered, key_changed, last_counts, live_volatile, made_after, made_of, made_with, marked_reply, may_change_keys, new_id, new_key, next_random, outcome_of, own_of, plain_step, reads_persistent, recorded_copy, recorded_of, refusal, replay, reply_unless, room_for_key_rows, serve, service_start, source_rows, start_of, step_copy, use_rows}
+pub use Rattle.store_model.specs.Prelude.{AreFoundKeys, Call, Copy, Destroy, Entry, FaultCounts, FaultMark, GainsNothing, GetAttributes, Hardware, HasFault, HasNumber, IsCaused, IsSoundKey, IsSoundStore, IsVolatileOf, Key, KeyMap, MayBeMarked, OnHandle, OnStore, OpenedKey, Outcome, Plain, Reading, Reply, Request, Service, Settings, Storage, Writing, as_stated, asks_device, buffer_after, copy_attributes, count_persistent, counted, created, created_unless, decided, derivation_key_rows, destroy_rows, destroyed, export_rows, failed_step, first_volatile, fits_type, found_from, found_made, has_secure_element, id_read, identified, is_opaque, is_opaque_key, is_persistent_key, is_volatile, is_volatile_of, key_answered, key_changed, last_counts, live_volatile, made_after, made_of, made_with, marked_reply, may_change_keys, new_id, new_key, next_random, outcome_of, own_of, plain_step, reads_persistent, recorded_copy, recorded_of, refusal, replay, reply_unless, room_for_key_rows, serve, service_of, source_rows, start_of, use_rows}
 pub use Rattle.key_cells.specs.declared.state.CellState.{CellState}
 pub use Rattle.std.proofs.lemmas.Option.{none-some, same_Some, slice_get_within}
 pub use Rattle.std.specs.Prelude.{⊤}
 pub use Rattle.store_core.specs.Freed.{ChangesFreed, FreedCell, FreedCellsAreZeros, HasFreed, HaveFreed, IsFreeSince, IsZerosSince, without_cell}
+pub use Rattle.std.proofs.Common.{[], ap, arith, bit_and, Bool, cond, count_by, drop, eq-eqb, Err, false, find, IfOk, IfSome, if◌then◌else◌, inl, inr, is_some, IsErrOf, IsTrue, length, length-append, List, MatchOption, min, nat_le, nat_lt, ne_eqb, None, not, Ok, ok_or, Option, refl, replicate, Result, rules, set, slice_get, slice_index, slice_index_or, slice_set, Some, subst, suc, sym, take, true, zero, ℕ, ⊎_elim, ◌%◌, ◌&&◌, ◌*◌, ◌++◌, ◌+◌, ◌-◌, ◌/◌, ◌<◌, ◌==◌, ◌^◌, ◌||◌, ◌↔◌, ◌∙◌, ◌∷◌, ◌≡◌, ◌≢◌, ◌≤◌, ◌⊎◌}
+pub use Rattle.std.specs.FinMap.{get as map_get, get-empty as map_get-empty, get-insert as map_get-insert, get-remove as map_get-remove, get-retain_keys as map_get-retain_keys, insert as map_insert, len as map_len, nat_cmp-IsAntisymmetric, remove as map_remove, retain_keys, same_map}
+pub use Rattle.store_model.specs.Store.{Store as Model, next_volatile}
+pub use Rattle.disk_face.specs.declared.Disk.{Ghosts as DiskGhosts}
+pub use Rattle.driver_dispatch.specs.declared.devices.Devices.{Ghosts as DevicesGhosts}
+pub use Rattle.admission.specs.declared.rules.Admission.{Ghosts as AdmissionGhosts}

@@ -1,11 +1,9 @@
 -- What a copy records of its source.
-use Rattle.std.proofs.Common.{Bool, Err, IfOk, List, Ok, Result, Some, [], ap, arith, cond, false, length, not, ok_or, refl, subst, sym, true, ℕ, ◌&&◌, ◌*◌, ◌/◌, ◌==◌, ◌∙◌, ◌∷◌, ◌≡◌}
-use Rattle.store_core.proofs.Common.{after_rules, after_verdict, as_stated, attribute_rows, Attributes, checked, copy_attributes, eqb-true, filled, first_row, has_secure_element, identified, InvalidArgument, is_opaque, is_volatile, IsSoundKey, Key, Label, location, narrowed, none_holds, not-false, recorded_copy, recorded_of, room_for_key_rows, source_rows, Status, then_ok, unless, unless-ok}
+use Rattle.store_core.proofs.Common.{[], after_rules, after_verdict, ap, arith, as_stated, attribute_rows, Attributes, Bool, checked, cond, copy_attributes, eqb-true, Err, false, filled, first_row, has_secure_element, identified, IfOk, InvalidArgument, is_opaque, is_volatile, IsSoundKey, Key, Label, length, List, location, Model, narrowed, none_holds, not, not-false, Ok, ok_or, recorded_copy, recorded_of, refl, Result, room_for_key_rows, Some, source_rows, Status, subst, sym, then_ok, true, unless, unless-ok, ℕ, ◌&&◌, ◌*◌, ◌/◌, ◌==◌, ◌∙◌, ◌∷◌, ◌≡◌}
 use Rattle.policy_rules.specs.declared.narrowing.Label.TheVariants.{NoExport, NoCopy, NoEcb, Aes256}
 use Rattle.policy_rules.specs.declared.narrowing.Verdict.{Verdict}
 use Rattle.policy_rules.specs.declared.narrowing.Verdict.TheVariants.{Keep, Refuse}
 use Rattle.policy_rules.specs.Policy.{meet_of}
-use Rattle.store_model.specs.Store as model
 
 -- THE LENGTH OF A KEY
 
@@ -13,7 +11,7 @@ same_bits : (a : Attributes) (b : Bool) → (cond b (identified a 0) a).bits ≡
 same_bits a true = refl
 same_bits a false = refl
 
-pub bytes_by_bits : (m : model.Store) (id : ℕ) (key : Key) → IsSoundKey m id key → length key.bytes ≡ key.attributes.bits / 8
+pub bytes_by_bits : (m : Model) (id : ℕ) (key : Key) → IsSoundKey m id key → length key.bytes ≡ key.attributes.bits / 8
 bytes_by_bits m id key sound =
     let a = as_stated key.attributes in
     let is = (unless-ok (first_row (attribute_rows a (length key.bytes) (has_secure_element m))) (filled a (length key.bytes)) a sound.attributes).1 in
@@ -52,7 +50,7 @@ rules_alike : (labels : List Label) (a : Attributes) → IfOk (after_rules label
 rules_alike [] a = record { key_type = refl; lifetime = refl }
 rules_alike (label ∷ labels) a = verdict_alike a (narrowed label a) (after_rules labels) (narrowed_alike label a) (rules_alike labels)
 
-recorded_alike : (m : model.Store) (caller : ℕ) (a : Attributes) (n : ℕ) (recorded : Attributes) → recorded_of m caller a n ≡ Ok recorded → IsAlike a recorded
+recorded_alike : (m : Model) (caller : ℕ) (a : Attributes) (n : ℕ) (recorded : Attributes) → recorded_of m caller a n ≡ Ok recorded → IsAlike a recorded
 recorded_alike m caller a n recorded e =
     let driver = has_secure_element m in
     let labels = m.settings.labels in
@@ -68,13 +66,13 @@ recorded_alike m caller a n recorded e =
 
 -- A COPY
 
-pub record IsCopied (m : model.Store) (caller : ℕ) (key : Key) (recorded : Attributes) : Type 0 where
+pub record IsCopied (m : Model) (caller : ℕ) (key : Key) (recorded : Attributes) : Type 0 where
   pub copy : Attributes
   pub decided : recorded_of m caller copy (length key.bytes) ≡ Ok recorded
   pub key_type : recorded.key_type ≡ key.attributes.key_type
   pub opaque : is_opaque recorded ≡ is_opaque key.attributes
 
-pub copies : (m : model.Store) (caller : ℕ) (key : Key) (stated recorded : Attributes) → recorded_copy m caller (Some key) stated ≡ Ok recorded → IsCopied m caller key recorded
+pub copies : (m : Model) (caller : ℕ) (key : Key) (stated recorded : Attributes) → recorded_copy m caller (Some key) stated ≡ Ok recorded → IsCopied m caller key recorded
 copies m caller key stated recorded e =
     let rows = source_rows key.attributes stated in
     let one = then_ok (unless (first_row rows) key.attributes) _ recorded e in

@@ -1,11 +1,5 @@
 -- A turn that copies a key.
-use Rattle.std.proofs.Common.{inl, Bool, Err, IsErrOf, List, None, Ok, Option, Result, Some, [], ap, cond, false, if◌then◌else◌, is_some, length, refl, subst, sym, true, ℕ, ◌++◌, ◌+◌, ◌∙◌, ◌∷◌, ◌≡◌}
-use Rattle.store_core.proofs.Common.{Agrees, AreHoldings, Attributes, Buffer, buffer_of, bytes-buffer_of, bytes_of, Copy, Corrupt, created_unless, Disk, Entry, FaultCounts, HasModel, Holds, HoldsHandle, id_read, InvalidHandle, is_destruction, is_opaque, is_persistent_key, IsAboutToCreate, IsEntry, IsMaking, IsMaterial, IsRefused, IsTold, Key, KeySlots, mark_of, Missing, OnStore, Opening, Outcome, Pairs, plain_step, Reading, reads_persistent, recorded_copy, recorded_of, replay, Request, Rose, Service, Slot, SlotHasKey, StandsFor, Status, status_of, step_copy, Storage, Store, there_rows, Unread}
-use Rattle.disk_face.specs.declared.Disk as Disk
-use Rattle.driver_dispatch.specs.declared.devices.Devices as Devices
-use Rattle.admission.specs.declared.rules.Admission as Admission
-use Rattle.std.specs.FinMap as map
-use Rattle.store_model.specs.Store as model
+use Rattle.store_core.proofs.Common.{[], AdmissionGhosts, Agrees, ap, AreHoldings, Attributes, Bool, Buffer, buffer_of, bytes-buffer_of, bytes_of, cond, Copy, Corrupt, created_unless, DevicesGhosts, Disk, DiskGhosts, Entry, Err, false, FaultCounts, HasModel, Holds, HoldsHandle, id_read, if◌then◌else◌, inl, InvalidHandle, is_destruction, is_opaque, is_persistent_key, is_some, IsAboutToCreate, IsEntry, IsErrOf, IsMaking, IsMaterial, IsRefused, IsTold, Key, KeySlots, length, List, map_get, mark_of, Missing, Model, None, Ok, OnStore, Opening, Option, Outcome, Pairs, plain_step, Reading, reads_persistent, recorded_copy, recorded_of, refl, replay, Request, Result, Rose, Service, Slot, SlotHasKey, Some, StandsFor, Status, status_of, Storage, Store, subst, sym, there_rows, true, Unread, ℕ, ◌++◌, ◌+◌, ◌∙◌, ◌∷◌, ◌≡◌}
 use Rattle.store_model.specs.KeyUse as key_use
 use Rattle.store_model.specs.Faults as fault
 use Rattle.store_core.proofs.Holding.{has_model, with_buffer}
@@ -15,12 +9,12 @@ use Rattle.store_core.proofs.Copied.{copies}
 use Rattle.store_core.proofs.Finishing.{refuses, unread}
 
 -- the bytes of the key of an identifier
-abbrev pub bytes_at : model.Store → ℕ → List ℕ
-bytes_at m id = key_use.bytes_of_key (map.get m.keys id)
+abbrev pub bytes_at : Model → ℕ → List ℕ
+bytes_at m id = key_use.bytes_of_key (map_get m.keys id)
 
 -- what a copy records of it
-abbrev pub copied_at : model.Store → (caller source : ℕ) → Attributes → Result Attributes Status
-copied_at m caller source stated = recorded_copy m caller (map.get m.keys source) stated
+abbrev pub copied_at : Model → (caller source : ℕ) → Attributes → Result Attributes Status
+copied_at m caller source stated = recorded_copy m caller (map_get m.keys source) stated
 
 module _ (e : Entry) (caller source : ℕ) (stated : Attributes) (by : e.caller ≡ caller) (call : e.call ≡ OnStore (Copy source stated)) where
   pub keeps : is_destruction e.call ≡ false
@@ -30,28 +24,28 @@ module _ (e : Entry) (caller source : ℕ) (stated : Attributes) (by : e.caller 
   reads_source service = ap (id_read service e.caller) call
 
   copy_store : (service : Service) → (plain_step service e.caller e.call).service.store ≡ (created_unless service.store caller (copied_at service.store caller source stated) (bytes_at service.store source)).store
-  copy_store service = ap (λ (r : Request). (plain_step service e.caller r).service.store) call ∙ ap (λ c. (step_copy service.store c source stated).store) by
+  copy_store service = ap (λ (r : Request). (plain_step service e.caller r).service.store) call ∙ ap (λ c. (created_unless service.store c (copied_at service.store c source stated) (bytes_at service.store source)).store) by
 
   copy_reply : (service : Service) → (plain_step service e.caller e.call).reply ≡ (created_unless service.store caller (copied_at service.store caller source stated) (bytes_at service.store source)).reply
-  copy_reply service = ap (λ (r : Request). (plain_step service e.caller r).reply) call ∙ ap (λ c. (step_copy service.store c source stated).reply) by
+  copy_reply service = ap (λ (r : Request). (plain_step service e.caller r).reply) call ∙ ap (λ c. (created_unless service.store c (copied_at service.store c source stated) (bytes_at service.store source)).reply) by
 
   -- the outcome by a store that is the service's
-  outcome_is : {X : Type 0} (f : Outcome → X) (service : Service) (m : model.Store) (recorded : Result Attributes Status) (bytes : List ℕ) → m ≡ service.store → copied_at m caller source stated ≡ recorded → bytes_at m source ≡ bytes →
+  outcome_is : {X : Type 0} (f : Outcome → X) (service : Service) (m : Model) (recorded : Result Attributes Status) (bytes : List ℕ) → m ≡ service.store → copied_at m caller source stated ≡ recorded → bytes_at m source ≡ bytes →
       f (created_unless service.store caller (copied_at service.store caller source stated) (bytes_at service.store source)) ≡ f (created_unless service.store caller recorded bytes)
   outcome_is f service m recorded bytes same decided own =
-      ap (λ (r : Result Attributes Status). f (created_unless service.store caller r (bytes_at service.store source))) (ap (λ (x : model.Store). copied_at x caller source stated) (sym same) ∙ decided)
-      ∙ ap (λ (b : List ℕ). f (created_unless service.store caller recorded b)) (ap (λ (x : model.Store). bytes_at x source) (sym same) ∙ own)
+      ap (λ (r : Result Attributes Status). f (created_unless service.store caller r (bytes_at service.store source))) (ap (λ (x : Model). copied_at x caller source stated) (sym same) ∙ decided)
+      ∙ ap (λ (b : List ℕ). f (created_unless service.store caller recorded b)) (ap (λ (x : Model). bytes_at x source) (sym same) ∙ own)
 
-  pub refused_copy : (service : Service) (m : model.Store) (status : Status) → m ≡ service.store → copied_at m caller source stated ≡ Err status → IsRefusedAt e status service
+  pub refused_copy : (service : Service) (m : Model) (status : Status) → m ≡ service.store → copied_at m caller source stated ≡ Err status → IsRefusedAt e status service
   refused_copy service m status same decided = record {
     leaves = copy_store service ∙ outcome_is (λ (o : Outcome). o.store) service m (Err status) (bytes_at m source) same decided refl;
     answers = copy_reply service ∙ outcome_is (λ (o : Outcome). o.reply) service m (Err status) (bytes_at m source) same decided refl;
   }
 
-  module _ {D A C : Type 0} (disks : Disk.Ghosts D) (elements : Devices.Ghosts A) (admits : Admission.Ghosts C)
+  module _ {D A C : Type 0} (disks : DiskGhosts D) (elements : DevicesGhosts A) (admits : AdmissionGhosts C)
       (mid : Store D A C) (start : Service) (opening : Opening) (h : List Entry) (all : List Pairs)
       (n : Holds disks elements admits (IsTold (disks.contents mid.file.cells.disk) start (h ++ e ∷ [])) mid start opening h all) where
-    pub reads_kept : is_persistent_key (map.get n.model.keys source) ≡ true → IsTold (disks.contents mid.file.cells.disk) start (h ++ e ∷ []) → reads_persistent (replay start h) e.caller e.call ≡ true
+    pub reads_kept : is_persistent_key (map_get n.model.keys source) ≡ true → IsTold (disks.contents mid.file.cells.disk) start (h ++ e ∷ []) → reads_persistent (replay start h) e.caller e.call ≡ true
     reads_kept is k = reads_it (replay start h) e.caller e.call source n.model (reads_source (replay start h)) (n.replayed k) ∙ is
 
     pub refused_here : (status : Status) → copied_at n.model caller source stated ≡ Err status → IsTold (disks.contents mid.file.cells.disk) start (h ++ e ∷ []) → IsRefusedAt e status (replay start h)
@@ -59,7 +53,7 @@ module _ (e : Entry) (caller source : ℕ) (stated : Attributes) (by : e.caller 
 
     -- THE COPY OF A SLOT'S KEY
 
-    module _ (slot : Slot) (key : Key) (there : map.get n.model.keys source ≡ Some key) (has : SlotHasKey slot key) (recorded : Attributes) (decided : Ok recorded ≡ recorded_copy n.model caller (Some key) stated)
+    module _ (slot : Slot) (key : Key) (there : map_get n.model.keys source ≡ Some key) (has : SlotHasKey slot key) (recorded : Attributes) (decided : Ok recorded ≡ recorded_copy n.model caller (Some key) stated)
         (buffer : Buffer) (filled : buffer ≡ buffer_of (bytes_of slot.buffer)) where
       abbrev pub material_of : Option ℕ
       material_of = if is_opaque slot.attributes then Some slot.creation else None
@@ -88,7 +82,7 @@ module _ (e : Entry) (caller source : ℕ) (stated : Attributes) (by : e.caller 
       ready =
           let c = copies n.model caller key stated recorded (sym decided) in
           let f = with_buffer disks elements admits (IsTold (disks.contents mid.file.cells.disk) start (h ++ e ∷ [])) mid buffer start opening h all inl n in
-          record { holds = f.0; bytes = key.bytes; material = material; stated = c.copy; decided = subst (λ (m : model.Store). recorded_of m caller c.copy (length key.bytes) ≡ Ok recorded) (sym f.1) c.decided }
+          record { holds = f.0; bytes = key.bytes; material = material; stated = c.copy; decided = subst (λ (m : Model). recorded_of m caller c.copy (length key.bytes) ≡ Ok recorded) (sym f.1) c.decided }
 
       pub making : IsMaking disks elements admits filled_store start h e caller recorded key.bytes
       making = record {
@@ -108,20 +102,20 @@ either Missing X missing unread = missing refl
 either Disk X missing unread = unread (λ e. cc)
 either Corrupt X missing unread = unread (λ e. cc)
 
-module _ {D A C : Type 0} (disks : Disk.Ghosts D) (elements : Devices.Ghosts A) (admits : Admission.Ghosts C)
+module _ {D A C : Type 0} (disks : DiskGhosts D) (elements : DevicesGhosts A) (admits : AdmissionGhosts C)
     (only_now : (disk : D) (image : List ℕ) → disks.left_since disk (disks.moment disk) image → disks.may_leave disk image)
     (old mid : Store D A C) (slots : KeySlots) (start : Service) (opening : Opening) (h : List Entry) (all less : List Pairs) (e : Entry) (caller source : ℕ) (stated : Attributes) (by : e.caller ≡ caller) (call : e.call ≡ OnStore (Copy source stated))
-    (s : StandsFor disks elements admits old start opening h all) (agrees : (m : model.Store) → Agrees mid.slots.table.slots m all → Agrees slots.table.slots m less) (law : AreHoldings less) where
-  abbrev Brought : (model.Store → Type 0) → Type 0
+    (s : StandsFor disks elements admits old start opening h all) (agrees : (m : Model) → Agrees mid.slots.table.slots m all → Agrees slots.table.slots m less) (law : AreHoldings less) where
+  abbrev Brought : (Model → Type 0) → Type 0
   Brought P = (n : Holds disks elements admits (IsTold (disks.contents mid.file.cells.disk) start (h ++ e ∷ [])) mid start opening h all) × P n.model
 
   abbrev ended : Store D A C
   ended = record mid { slots = slots; ranked = mid.ranked + 1 }
 
-  abbrev Ends : (model.Store → Type 0) → Type 0
+  abbrev Ends : (Model → Type 0) → Type 0
   Ends P = StandsFor disks elements admits ended start opening (h ++ e ∷ []) less × HasModel (IsTold (disks.contents mid.file.cells.disk) start (h ++ e ∷ [])) start h P
 
-  pub uncopied : (why : Unread) → (IsWhy why Missing → Brought (λ m. map.get m.keys source ≡ None)) → ((IsWhy why Missing → ⊥) → Brought (λ m. is_persistent_key (map.get m.keys source) ≡ true)) →
+  pub uncopied : (why : Unread) → (IsWhy why Missing → Brought (λ m. map_get m.keys source ≡ None)) → ((IsWhy why Missing → ⊥) → Brought (λ m. is_persistent_key (map_get m.keys source) ≡ true)) →
       (IsWhy why Disk → Rose (disks.faults old.file.cells.disk) (disks.faults mid.file.cells.disk)) → (IsWhy why Corrupt → is_some (disks.contents mid.file.cells.disk) ≡ false) →
       IsEntry disks elements admits ended (mark_of (status_of why)) e → Ends (IsRefused there_rows source (status_of why))
   uncopied Missing missing not_read rose blind is =

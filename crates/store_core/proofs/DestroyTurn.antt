@@ -1,40 +1,33 @@
 -- A ranked turn that destroys a key.
-use Rattle.std.proofs.Common.{List, None, Some, [], ap, arith, false, inl, is_some, length, not, refl, set, slice_index, slice_set, subst, sym, true, ℕ, ◌++◌, ◌+◌, ◌-◌, ◌/◌, ◌<◌, ◌^◌, ◌∙◌, ◌∷◌, ◌≡◌, ◌⊎◌}
-use Rattle.store_core.proofs.Common.{Agrees, cell_state, creation_of_state, Destroy, destroyed_sound, Doubt, doubt_by, durable_keys, Entry, FaultMark, Free, has_id, HasFault, HasNoKey, holds_key, is_destruction, is_persistent_key, is_volatile, IsDirectory, IsEntry, IsPut, IsSoundStore, IsSure, kept, Key, key_changed, key_of_slot, KeyFile, Keys, KeySlots, Leads, MayBeMarked, OnStore, Opening, option_map, Pairs, Plain, Puts, ranked_on, Service, settled_states, Slot, slot_at, SlotHasKey, StandsFor, StandsForKeys, stays, Store, Stored, stored, without_key}
-use Rattle.disk_face.specs.declared.Disk as Disk
-use Rattle.driver_dispatch.specs.declared.devices.Devices as Devices
-use Rattle.admission.specs.declared.rules.Admission as Admission
-use Rattle.std.specs.FinMap as map
-use Rattle.key_cells.specs.declared.state.CellState as cell
-use Rattle.store_model.specs.Store as model
+use Rattle.store_core.proofs.Common.{[], AdmissionGhosts, Agrees, ap, arith, cell_state, CellState, creation_of_state, Destroy, destroyed_sound, DevicesGhosts, DiskGhosts, Doubt, doubt_by, durable_keys, Entry, false, FaultMark, Free, has_id, HasFault, holds_key, inl, is_destruction, is_persistent_key, is_some, is_volatile, IsEntry, IsPut, IsSoundStore, IsSure, kept, Key, key_changed, key_of_slot, KeyFile, Keys, KeySlots, Leads, length, List, map_get, MayBeMarked, Model, None, not, OnStore, Opening, option_map, Pairs, Plain, Puts, ranked_on, refl, Service, set, settled_states, slice_index, slice_set, Slot, slot_at, SlotHasKey, Some, StandsFor, StandsForKeys, stays, Store, Stored, stored, subst, sym, true, without_key, ℕ, ◌++◌, ◌+◌, ◌-◌, ◌/◌, ◌<◌, ◌^◌, ◌∙◌, ◌∷◌, ◌≡◌, ◌⊎◌}
 use Rattle.store_core.proofs.Holding.{counts_of, same_device}
 use Rattle.store_core.proofs.Histories.{told_before}
 use Rattle.store_core.proofs.Kept.{key_of_cell}
 use Rattle.store_core.proofs.Changing.{leaves, turns_standing}
 use Rattle.store_core.proofs.Freeing.{MovesFree, unmoved}
 use Rattle.store_core.proofs.Removing.{gone, takes_out, without_kept, kept_here, kept_same, directory_emptied, directory_stays, device_stays, device_loses}
-use Rattle.store_core.proofs.Destroyed.{entry_removes, entry_stays, changes_it, doubt_here, opens_with, in_no_cell, fewer_kept, as_many_live, as_many_kept, live_after}
+use Rattle.store_core.proofs.Destroyed.{entry_removes, entry_stays, changes_it, doubt_here, opens_with, high_is_volatile, fewer_kept, as_many_live, as_many_kept, live_after}
 
--- THE KEY OF A SLOT THAT NO CELL HAS
+-- THE KEY OF A SLOT WHOSE IDENTIFIER CAN'T BE STATED
 
-pub record IsInSlot (m : model.Store) (id : ℕ) (slot : Slot) : Type 0 where
+pub record IsInSlot (m : Model) (id : ℕ) (slot : Slot) : Type 0 where
   pub key : Key
-  pub there : map.get m.keys id ≡ Some key
+  pub there : map_get m.keys id ≡ Some key
   pub volatile : is_volatile key.attributes ≡ true
   pub has : SlotHasKey slot key
 
-pub slot_key : (cells : List cell.CellState) (slots : List Slot) (m : model.Store) (all : List Pairs) (id i : ℕ) → IsDirectory cells m → HasNoKey cells id → Agrees slots m all → i < 384 → holds_key id (slot_at slots i) ≡ true → IsInSlot m id (slot_at slots i)
-slot_key cells slots m all id i d none agrees lt holds =
+pub slot_key : (slots : List Slot) (m : Model) (all : List Pairs) (id i : ℕ) → IsSoundStore m → 0x3fffffff < id → Agrees slots m all → i < 384 → holds_key id (slot_at slots i) ≡ true → IsInSlot m id (slot_at slots i)
+slot_key slots m all id i sound high agrees lt holds =
     let k = key_of_slot slots m all id i agrees lt holds in
-    record { key = k.0; there = k.1; volatile = in_no_cell cells m id k.0 d none k.1; has = k.2 }
+    record { key = k.0; there = k.1; volatile = high_is_volatile m id k.0 sound high k.1; has = k.2 }
 
-module _ {D A C : Type 0} (disks : Disk.Ghosts D) (elements : Devices.Ghosts A) (admits : Admission.Ghosts C)
+module _ {D A C : Type 0} (disks : DiskGhosts D) (elements : DevicesGhosts A) (admits : AdmissionGhosts C)
     (only_now : (disk : D) (image : List ℕ) → disks.left_since disk (disks.moment disk) image → disks.may_leave disk image)
     (old : Store D A C) (start : Service) (opening : Opening) (h : List Entry) (all : List Pairs) (e : Entry) (id : ℕ) (call : e.call ≡ OnStore (Destroy id)) where
   abbrev disk : D
   disk = old.file.cells.disk
 
-  abbrev cells : List cell.CellState
+  abbrev cells : List CellState
   cells = old.file.cells.states.items
 
   abbrev StandsOld : Type 0
@@ -47,16 +40,16 @@ module _ {D A C : Type 0} (disks : Disk.Ghosts D) (elements : Devices.Ghosts A) 
   IsTurnTo new mark = IsEntry disks elements admits new mark e
 
   -- there is no key to destroy
-  pub nothing : (s : StandsOld) → map.get s.holds.model.keys id ≡ None → IsTurnTo (ranked_on old) Plain → StandsNew (ranked_on old)
+  pub nothing : (s : StandsOld) → map_get s.holds.model.keys id ≡ None → IsTurnTo (ranked_on old) Plain → StandsNew (ranked_on old)
   nothing s none is =
       let before = told_before (disks.contents disk) start h e in
-      (leaves disks elements admits only_now e (λ service. map.get service.store.keys id ≡ None) Plain old.slots old.devices s.holds before (λ k. ap (λ (x : model.Store). map.get x.keys id) (sym (s.holds.replayed (before k))) ∙ none)
+      (leaves disks elements admits only_now e (λ service. map_get service.store.keys id ≡ None) Plain old.slots old.devices s.holds before (λ k. ap (λ (x : Model). map_get x.keys id) (sym (s.holds.replayed (before k))) ∙ none)
       (λ service known. entry_stays e id call service is.marked known) s.holds.slots s.holds.holdings refl (same_device (elements.keys old.devices) s.holds.model s.holds.device) tt (λ service known at. tt)
       (λ c known. doubt_here e id call c Plain None is.marked (ap kept known)) (λ service known. inl (ap is_persistent_key (changes_it e id call service ∙ known))) is).0
 
   -- what the slots make of a key that is taken out
   abbrev pub Forgets : KeySlots → Type 0
-  Forgets slots = (m m' : model.Store) (all : List Pairs) → Agrees old.slots.table.slots m all → IsSoundStore m → Puts m m' id None → Agrees slots.table.slots m' all
+  Forgets slots = (m m' : Model) (all : List Pairs) → Agrees old.slots.table.slots m all → IsSoundStore m → Puts m m' id None → Agrees slots.table.slots m' all
 
   -- what the file makes of a key that it destroys
   pub record IsUnfiled (file : KeyFile D) (mark : FaultMark) (c : ℕ) : Type 0 where
@@ -88,7 +81,7 @@ module _ {D A C : Type 0} (disks : Disk.Ghosts D) (elements : Devices.Ghosts A) 
       let fewer = fewer_kept m id key there s.holds.sound persistent in
       let was = s.holds.kept in
       turns_standing disks elements admits only_now old (unfiled file slots) start opening h all all e mark (gone m id) s (record {
-        becomes = λ service known same. ap (λ (x : model.Store). gone x id) same ∙ sym (entry_removes e id call service key (ap (λ (x : model.Store). map.get x.keys id) (sym same) ∙ there));
+        becomes = λ service known same. ap (λ (x : Model). gone x id) same ∙ sym (entry_removes e id call service key (ap (λ (x : Model). map_get x.keys id) (sym same) ∙ there));
         sound = destroyed_sound m id s.holds.sound;
         counts = refl;
         goes_on = record { rules = refl; found = refl; ranked = refl };
@@ -102,25 +95,25 @@ module _ {D A C : Type 0} (disks : Disk.Ghosts D) (elements : Devices.Ghosts A) 
         device = device_stays m id key there (elements.keys old.devices) s.holds.device;
         tells = f.tells;
         leads = λ course known same stands. subst (Leads disks disk file.cells.disk cells file.cells.states.items (durable_keys m) course.doubt (durable_keys (gone m id)))
-            (sym (doubt_here e id call course mark _ is.marked (ap (λ (x : model.Store). durable_keys x id) (sym same) ∙ kept_here m id key there false persistent)))
+            (sym (doubt_here e id call course mark _ is.marked (ap (λ (x : Model). durable_keys x id) (sym same) ∙ kept_here m id key there false persistent)))
             (f.leads (durable_keys m) (durable_keys (gone m id)) course.doubt (stored key.number key.attributes key.bytes) stands (kept_here m id key there false persistent) (without_kept m id));
         frees = λ service known same. subst (λ b. MovesFree (is_persistent_key (key_changed service e.caller e.call)) b mark cells file.cells.states.items) (sym (ap is_destruction call))
-            (subst (λ b. MovesFree b true mark cells file.cells.states.items) (sym (ap is_persistent_key (changes_it e id call service ∙ (ap (λ (x : model.Store). map.get x.keys id) (sym same) ∙ there)) ∙ ap not persistent)) f.frees);
+            (subst (λ b. MovesFree b true mark cells file.cells.states.items) (sym (ap is_persistent_key (changes_it e id call service ∙ (ap (λ (x : Model). map_get x.keys id) (sym same) ∙ there)) ∙ ap not persistent)) f.frees);
         settles = λ course known same sure none. f.settles (stored key.number key.attributes key.bytes) course.doubt
-            (sym (doubt_here e id call course mark _ is.marked (ap (λ (x : model.Store). durable_keys x id) (sym same) ∙ kept_here m id key there false persistent)) ∙ none);
+            (sym (doubt_here e id call course mark _ is.marked (ap (λ (x : Model). durable_keys x id) (sym same) ∙ kept_here m id key there false persistent)) ∙ none);
         fault = fault;
-        may = λ service known same. may service (ap is_persistent_key (changes_it e id call service ∙ (ap (λ (x : model.Store). map.get x.keys id) (sym same) ∙ there)) ∙ ap not persistent);
+        may = λ service known same. may service (ap is_persistent_key (changes_it e id call service ∙ (ap (λ (x : Model). map_get x.keys id) (sym same) ∙ there)) ∙ ap not persistent);
       }) is
 
   -- a store without a volatile key of a caller
   abbrev pub unslotted : A → KeySlots → (caller : ℕ) → Store D A C
   unslotted devices slots caller = record old { slots = slots; devices = devices; live = slice_set old.live caller (slice_index old.live caller - 1); ranked = old.ranked + 1 }
 
-  -- the key of a slot that no cell has is destroyed
+  -- the key of such a slot is destroyed
   pub destroys_volatile : (devices : A) (slots : KeySlots) (caller : ℕ) (mark : FaultMark) (slot : Slot) (s : StandsOld) → IsInSlot s.holds.model id slot → Forgets slots →
       1024 + caller ≡ id / 2 ^ 20 → elements.locations devices ≡ elements.locations old.devices → ((elements.keys devices ≡ elements.keys old.devices) ⊎ (elements.keys devices ≡ option_map (without_key slot.creation) (elements.keys old.devices))) →
       HasFault (is_some (disks.contents disk)) (counts_of (disks.faults disk) (elements.faults old.devices)) e mark →
-      ((service : Service) → key_changed service e.caller e.call ≡ map.get s.holds.model.keys id → MayBeMarked service e.caller e.call mark) →
+      ((service : Service) → key_changed service e.caller e.call ≡ map_get s.holds.model.keys id → MayBeMarked service e.caller e.call mark) →
       IsTurnTo (unslotted devices slots caller) mark → StandsNew (unslotted devices slots caller)
   destroys_volatile devices slots caller mark slot s k forgets named places loses fault may is =
       let m = s.holds.model in
@@ -128,7 +121,7 @@ module _ {D A C : Type 0} (disks : Disk.Ghosts D) (elements : Devices.Ghosts A) 
       let there = k.there in
       let volatile = k.volatile in
       turns_standing disks elements admits only_now old (unslotted devices slots caller) start opening h all all e mark (gone m id) s (record {
-        becomes = λ service known same. ap (λ (x : model.Store). gone x id) same ∙ sym (entry_removes e id call service key (ap (λ (x : model.Store). map.get x.keys id) (sym same) ∙ there));
+        becomes = λ service known same. ap (λ (x : Model). gone x id) same ∙ sym (entry_removes e id call service key (ap (λ (x : Model). map_get x.keys id) (sym same) ∙ there));
         sound = destroyed_sound m id s.holds.sound;
         counts = refl;
         goes_on = record { rules = refl; found = refl; ranked = refl };
@@ -143,11 +136,11 @@ module _ {D A C : Type 0} (disks : Disk.Ghosts D) (elements : Devices.Ghosts A) 
             (subst (λ (n : ℕ). (elements.keys devices ≡ elements.keys old.devices) ⊎ (elements.keys devices ≡ option_map (without_key n) (elements.keys old.devices))) k.has.number loses) s.holds.device;
         tells = refl;
         leads = λ course known same stands. subst (Leads disks disk disk cells cells (durable_keys m) course.doubt (durable_keys (gone m id)))
-            (sym (doubt_here e id call course mark None is.marked (ap (λ (x : model.Store). durable_keys x id) (sym same) ∙ kept_here m id key there true volatile)))
+            (sym (doubt_here e id call course mark None is.marked (ap (λ (x : Model). durable_keys x id) (sym same) ∙ kept_here m id key there true volatile)))
             (stays disks disk cells (durable_keys m) (durable_keys (gone m id)) course.doubt (kept_same m id key there volatile) stands);
         frees = λ service known same. unmoved (is_persistent_key (key_changed service e.caller e.call)) (is_destruction e.call) mark cells
-            (inl (ap is_persistent_key (changes_it e id call service ∙ (ap (λ (x : model.Store). map.get x.keys id) (sym same) ∙ there)) ∙ ap not volatile));
-        settles = λ course known same sure none. sure (sym (doubt_here e id call course mark None is.marked (ap (λ (x : model.Store). durable_keys x id) (sym same) ∙ kept_here m id key there true volatile)) ∙ none);
+            (inl (ap is_persistent_key (changes_it e id call service ∙ (ap (λ (x : Model). map_get x.keys id) (sym same) ∙ there)) ∙ ap not volatile));
+        settles = λ course known same sure none. sure (sym (doubt_here e id call course mark None is.marked (ap (λ (x : Model). durable_keys x id) (sym same) ∙ kept_here m id key there true volatile)) ∙ none);
         fault = fault;
-        may = λ service known same. may service (changes_it e id call service ∙ ap (λ (x : model.Store). map.get x.keys id) (sym same));
+        may = λ service known same. may service (changes_it e id call service ∙ ap (λ (x : Model). map_get x.keys id) (sym same));
       }) is

@@ -1,9 +1,5 @@
 -- The one-thread store and the devices without a key that is destroyed.
-use Rattle.std.proofs.Common.{⊎_elim, ne_eqb, Bool, List, None, Ok, Option, Some, [], ap, arith, cond, eq-eqb, false, inl, inr, length, nat_lt, not, refl, slice_index, slice_set, sym, true, ℕ, ◌&&◌, ◌+◌, ◌-◌, ◌/◌, ◌<◌, ◌==◌, ◌^◌, ◌||◌, ◌∙◌, ◌≡◌, ◌≢◌, ◌≤◌}
-use Rattle.store_core.proofs.Common.{and_parts, as_stated, attribute_rows, Attributes, cases_eq, cases_lt, checked, count_persistent, counted, Course, creation_of_state, decided, Destroy, destroy_rows, destroyed, Doubt, doubt_after, doubt_by, doubt_undestroyed, Entry, eqb-true, false≢true, FaultMark, filled, first_row, get_or-set_other, get_or-set_same, get_or_past, has_id, has_secure_element, HasNoKey, held_key, HeldKey, HeldKeys, HoldsHandle, identified, InvalidHandle, is_destruction, is_lifetime, is_opaque, is_volatile, is_volatile_of, IsDirectory, IsSomeKey, IsSoundStore, IsVolatileOf, kept, Key, key_changed, KeyMap, le-ltb, live_volatile, location, low_id, lt-ltb, none_holds, not-false, of_volatile, OnStore, Open, option_map_or, or_cases, outcome_of, persistence, Plain, Request, serve, Service, Status, Storage, Stored, true_from_ne_false, unless-ok, Writing, ⊤}
-use Rattle.std.specs.FinMap as map
-use Rattle.key_cells.specs.declared.state.CellState as cell
-use Rattle.store_model.specs.Store as model
+use Rattle.store_core.proofs.Common.{[], and_parts, ap, arith, as_stated, attribute_rows, Attributes, Bool, cases_eq, cases_lt, CellState, checked, cond, count_persistent, counted, Course, creation_of_state, decided, Destroy, destroy_rows, destroyed, Doubt, doubt_after, doubt_by, doubt_undestroyed, Entry, eq-eqb, eqb-true, false, false_from_ne_true, false≢true, FaultMark, filled, first_row, get_or-set_other, get_or-set_same, get_or_past, has_id, has_secure_element, held_key, HeldKey, HeldKeys, HoldsHandle, identified, inl, inr, InvalidHandle, is_destruction, is_lifetime, is_opaque, is_volatile, is_volatile_of, IsSomeKey, IsSoundStore, IsVolatileKey, IsVolatileOf, kept, Key, key_changed, KeyMap, le-ltb, length, List, live_volatile, location, low_id, lt-ltb, map_get, Model, nat_lt, ne_eqb, None, none_holds, not, not-false, of_volatile, Ok, OnStore, Open, Option, option_map_or, or_cases, outcome_of, persistence, Plain, refl, Request, serve, Service, slice_index, slice_set, Some, Status, Storage, Stored, subst, sym, true, true_from_ne_false, unless-ok, Writing, ℕ, ⊎_elim, ⊤, ◌&&◌, ◌+◌, ◌-◌, ◌/◌, ◌<◌, ◌==◌, ◌^◌, ◌||◌, ◌∙◌, ◌≡◌, ◌≢◌, ◌≤◌}
 use Rattle.store_core.proofs.Removing.{one_less, nothing_removed, gone}
 
 -- THE MODEL
@@ -20,35 +16,35 @@ rows_zero id o zero = ap (λ (n : ℕ). first_row (destroy_rows o n)) zero
 pub rows_missing : (id : ℕ) (o : Option Key) → id ≢ 0 → o ≡ None → first_row (destroy_rows o id) ≡ Some InvalidHandle
 rows_missing id o differ none = ap (λ (x : Option Key). first_row (destroy_rows x id)) none ∙ ap (λ b. cond (not b && true) (Some InvalidHandle) None) (ne_eqb id 0 differ)
 
-after_destruction : (service : Service) (caller : ℕ) (mark : FaultMark) (id : ℕ) (key : Key) → map.get service.store.keys id ≡ Some key →
+after_destruction : (service : Service) (caller : ℕ) (mark : FaultMark) (id : ℕ) (key : Key) → map_get service.store.keys id ≡ Some key →
     (serve service caller (OnStore (Destroy id)) mark).service.store ≡ (destroyed service.store id).store
-after_destruction service caller Plain id key is = ap (λ (o : Option Status). (decided service.store o (destroyed service.store id)).store) (rows_there id (map.get service.store.keys id) key is)
+after_destruction service caller Plain id key is = ap (λ (o : Option Status). (decided service.store o (destroyed service.store id)).store) (rows_there id (map_get service.store.keys id) key is)
 after_destruction service caller mark id key is = refl
 
-after_nothing : (service : Service) (caller id : ℕ) → map.get service.store.keys id ≡ None → (serve service caller (OnStore (Destroy id)) Plain).service.store ≡ counted service.store
-after_nothing service caller id none = by_rows (first_row (destroy_rows (map.get service.store.keys id) id)) where
+after_nothing : (service : Service) (caller id : ℕ) → map_get service.store.keys id ≡ None → (serve service caller (OnStore (Destroy id)) Plain).service.store ≡ counted service.store
+after_nothing service caller id none = by_rows (first_row (destroy_rows (map_get service.store.keys id) id)) where
   by_rows : (o : Option Status) → (decided service.store o (destroyed service.store id)).store ≡ counted service.store
   by_rows None = ap (λ (keys : KeyMap). record (counted service.store) { keys = keys }) (nothing_removed service.store.keys id none)
   by_rows (Some status) = refl
 
 module _ (e : Entry) (id : ℕ) (call : e.call ≡ OnStore (Destroy id)) where
-  abbrev Serves : Service → Request → FaultMark → model.Store
+  abbrev Serves : Service → Request → FaultMark → Model
   Serves service request mark = (serve service e.caller request mark).service.store
 
-  pub entry_removes : (service : Service) (key : Key) → map.get service.store.keys id ≡ Some key → (outcome_of service e).service.store ≡ gone service.store id
+  pub entry_removes : (service : Service) (key : Key) → map_get service.store.keys id ≡ Some key → (outcome_of service e).service.store ≡ gone service.store id
   entry_removes service key is = ap (λ (r : Request). Serves service r e.mark) call ∙ after_destruction service e.caller e.mark id key is
 
-  pub entry_stays : (service : Service) → e.mark ≡ Plain → map.get service.store.keys id ≡ None → (outcome_of service e).service.store ≡ counted service.store
+  pub entry_stays : (service : Service) → e.mark ≡ Plain → map_get service.store.keys id ≡ None → (outcome_of service e).service.store ≡ counted service.store
   entry_stays service plain none = ap (λ (r : Request). Serves service r e.mark) call ∙ (ap (Serves service (OnStore (Destroy id))) plain ∙ after_nothing service e.caller id none)
 
-  pub changes_it : (service : Service) → key_changed service e.caller e.call ≡ map.get service.store.keys id
+  pub changes_it : (service : Service) → key_changed service e.caller e.call ≡ map_get service.store.keys id
   changes_it service = ap (key_changed service e.caller) call
 
   -- what is in doubt afterwards
-  pub doubt_here : (s : Course) (mark : FaultMark) (o : Option Stored) → e.mark ≡ mark → kept (map.get s.service.store.keys id) ≡ o → doubt_after e s ≡ option_map_or (λ (key : Stored). doubt_by mark true key s.doubt) o s.doubt
+  pub doubt_here : (s : Course) (mark : FaultMark) (o : Option Stored) → e.mark ≡ mark → kept (map_get s.service.store.keys id) ≡ o → doubt_after e s ≡ option_map_or (λ (key : Stored). doubt_by mark true key s.doubt) o s.doubt
   doubt_here s mark o marked is =
       ap (λ (r : Request). option_map_or (λ (key : Stored). doubt_by e.mark (is_destruction r) key s.doubt) (kept (key_changed s.service e.caller r)) s.doubt) call
-      ∙ (ap (λ (x : FaultMark). option_map_or (λ (key : Stored). doubt_by x true key s.doubt) (kept (map.get s.service.store.keys id)) s.doubt) marked
+      ∙ (ap (λ (x : FaultMark). option_map_or (λ (key : Stored). doubt_by x true key s.doubt) (kept (map_get s.service.store.keys id)) s.doubt) marked
       ∙ ap (λ (x : Option Stored). option_map_or (λ (key : Stored). doubt_by mark true key s.doubt) x s.doubt) is)
 
 pub undestroyed_doubt : (closed_first : Bool) (key : Stored) (doubt : Doubt) → doubt_undestroyed closed_first key.attributes key.bytes doubt ≡ doubt_by (Storage (Writing closed_first)) true key doubt
@@ -61,17 +57,9 @@ still_doubted false key doubt none = cc
 
 -- KEYS BY THEIR IDENTIFIERS
 
-pub opens_with : (slot : cell.CellState) (id : ℕ) → has_id id slot ≡ true → slot ≡ Open id (creation_of_state slot)
+pub opens_with : (slot : CellState) (id : ℕ) → has_id id slot ≡ true → slot ≡ Open id (creation_of_state slot)
 opens_with (Open own number) id is = ap (λ (n : ℕ). Open n number) (eqb-true own id is)
 opens_with slot id is = absurd (false≢true is)
-
--- a key that no cell has is volatile
-pub in_no_cell : (slots : List cell.CellState) (m : model.Store) (id : ℕ) (key : Key) → IsDirectory slots m → HasNoKey slots id → map.get m.keys id ≡ Some key → is_volatile key.attributes ≡ true
-in_no_cell slots m id key d none is = true_from_ne_false (is_volatile key.attributes) (λ persistent.
-    let there = d.there id key is persistent in
-    let sized = d.sized in
-    let inside = there.1 in
-    false≢true (sym (none there.0 (omega arith)) ∙ (ap (has_id id) there.2 ∙ eq-eqb id id refl)))
 
 counted_true : (b : Bool) (n m : ℕ) → n ≡ cond b (m + 1) m → b ≡ true → n ≡ m + 1
 counted_true b n m is counts = is ∙ ap (λ x. cond x (m + 1) m) counts
@@ -85,24 +73,24 @@ within live i some = elim (cases_lt i (length live)) [
   | inr past ↦ let none = get_or_past live i 0 past in absurd (omega arith)
 ]
 
-module _ (m : model.Store) (id : ℕ) (key : Key) (there : map.get m.keys id ≡ Some key) (sound : IsSoundStore m) where
-  abbrev less : model.Store
+module _ (m : Model) (id : ℕ) (key : Key) (there : map_get m.keys id ≡ Some key) (sound : IsSoundStore m) where
+  abbrev less : Model
   less = gone m id
 
   abbrev low : ℕ → Bool
   low = λ n. nat_lt n 0x40000000
 
   module _ (persistent : is_volatile key.attributes ≡ false) where
-    low_here : id ≤ 0x3fffffff
-    low_here = let k = sound.keys id key there in let l = (low_id key.attributes (length key.bytes) (has_secure_element m) k.attributes persistent).1 in let same = k.identifier in omega arith
+    pub stated_here : (1 ≤ id) × (id ≤ 0x3fffffff)
+    stated_here = let k = sound.keys id key there in subst (λ n. (1 ≤ n) × (n ≤ 0x3fffffff)) k.identifier (low_id key.attributes (length key.bytes) (has_secure_element m) k.attributes persistent)
 
     pub fewer_kept : count_persistent m.keys ≡ count_persistent less.keys + 1
-    fewer_kept = counted_true (low id) _ _ (one_less low m.keys id key there) (lt-ltb id 0x40000000 (let most = low_here in omega arith))
+    fewer_kept = counted_true (low id) _ _ (one_less low m.keys id key there) (lt-ltb id 0x40000000 (let most = stated_here.1 in omega arith))
 
     pub as_many_live : (c : ℕ) → live_volatile less.keys c ≡ live_volatile m.keys c
     as_many_live c = sym (counted_false (is_volatile_of c id) _ _ (one_less (is_volatile_of c) m.keys id key there) (not_of (is_volatile_of c id) refl)) where
       not_of : (b : Bool) → is_volatile_of c id ≡ b → is_volatile_of c id ≡ false
-      not_of true is = absurd (of_volatile id c low_here is)
+      not_of true is = absurd (of_volatile id c stated_here.1 is)
       not_of false is = is
 
   module _ (volatile : is_volatile key.attributes ≡ true) where
@@ -132,20 +120,27 @@ module _ (m : model.Store) (id : ℕ) (key : Key) (there : map.get m.keys id ≡
         | inr differ ↦ other_live c differ ∙ (before c le ∙ sym (get_or-set_other live caller c (slice_index live caller - 1) 0 differ))
       ]
 
--- no key has the identifier 0
-pub none_at_zero : (m : model.Store) (id : ℕ) → IsSoundStore m → id ≡ 0 → map.get m.keys id ≡ None
-none_at_zero m id sound zero = go (map.get m.keys id) refl where
-  not_zero : (key : Key) (b : Bool) → map.get m.keys id ≡ Some key → is_volatile key.attributes ≡ b → ⊥
-  not_zero key true there volatile = let high = high_here m id key there sound volatile in omega arith
-  not_zero key false there persistent =
-      let k = sound.keys id key there in
-      let least = (low_id key.attributes (length key.bytes) (has_secure_element m) k.attributes persistent).0 in
-      let same = k.identifier in
-      omega arith
+-- a key of a greater identifier than can be stated is volatile
+pub high_is_volatile : (m : Model) (id : ℕ) (key : Key) → IsSoundStore m → 0x3fffffff < id → map_get m.keys id ≡ Some key → is_volatile key.attributes ≡ true
+high_is_volatile m id key sound high there = true_from_ne_false (is_volatile key.attributes) (λ persistent. let most = (stated_here m id key there sound persistent).1 in omega arith)
 
-  go : (o : Option Key) → map.get m.keys id ≡ o → o ≡ None
-  go None is = refl
-  go (Some key) is = absurd (not_zero key (is_volatile key.attributes) is refl)
+-- and no other key is
+pub low_lasts : (m : Model) (id : ℕ) → IsSoundStore m → id ≤ 0x3fffffff → IsVolatileKey (map_get m.keys id) → ⊥
+low_lasts m id sound low = go (map_get m.keys id) refl where
+  go : (o : Option Key) → map_get m.keys id ≡ o → IsVolatileKey o → ⊥
+  go None there is = is
+  go (Some key) there is = let high = high_here m id key there sound is in omega arith
+
+-- an identifier that can't be stated is no persistent key's
+pub none_unstated : (m : Model) (id : ℕ) → IsSoundStore m → (1 ≤ id → id ≤ 0x3fffffff → ⊥) → (IsVolatileKey (map_get m.keys id) → ⊥) → map_get m.keys id ≡ None
+none_unstated m id sound unstated lasts = go (map_get m.keys id) refl lasts where
+  go : (o : Option Key) → map_get m.keys id ≡ o → (IsVolatileKey o → ⊥) → o ≡ None
+  go None there lasts = refl
+  go (Some key) there lasts = let stated = stated_here m id key there sound (false_from_ne_true (is_volatile key.attributes) lasts) in absurd (unstated stated.0 stated.1)
+
+-- no key has the identifier 0
+pub none_at_zero : (m : Model) (id : ℕ) → IsSoundStore m → id ≡ 0 → map_get m.keys id ≡ None
+none_at_zero m id sound zero = none_unstated m id sound (λ least most. omega arith) (low_lasts m id sound (omega arith))
 
 -- THE DEVICE
 
@@ -167,7 +162,7 @@ needs_element p l driver at is =
       clash : (l == 0) ≡ true → ⊥
       clash zero = let one = eqb-true l 1 at in let none = eqb-true l 0 zero in omega arith
 
-pub element_there : (m : model.Store) (id : ℕ) (key : Key) → map.get m.keys id ≡ Some key → IsSoundStore m → is_opaque key.attributes ≡ true → has_secure_element m ≡ true
+pub element_there : (m : Model) (id : ℕ) (key : Key) → map_get m.keys id ≡ Some key → IsSoundStore m → is_opaque key.attributes ≡ true → has_secure_element m ≡ true
 element_there m id key there sound opaque =
     needs_element (persistence key.attributes.lifetime.0) (location key.attributes.lifetime.0) (has_secure_element m) opaque
     (lifetime_stated key.attributes (length key.bytes) (has_secure_element m) (sound.keys id key there).attributes)

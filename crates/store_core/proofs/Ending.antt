@@ -1,8 +1,5 @@
 -- Which slots the calls within a turn end.
-use Rattle.std.proofs.Common.{List, None, ap, arith, inl, inr, subst, sym, true, ℕ, ⊎_elim, ◌∙◌, ◌≡◌, ◌⊎◌}
-use Rattle.store_core.proofs.Common.{Agrees, empty_slot, ends_then, EndsOnly, full_within, holds_key, IsEmptyOrIdle, IsFillingOf, IsLawful, IsLawfulSlot, IsTakenOf, keeps_all, KeepsOrEmpties, KeepsSlot, key_is_full, key_of_slot, none-some, Pairs, Slot, slot_at, Table, TakesOne}
-use Rattle.std.specs.FinMap as map
-use Rattle.store_model.specs.Store as model
+use Rattle.store_core.proofs.Common.{Agrees, ap, arith, empty_slot, ends_then, EndsOnly, full_within, holds_key, inl, inr, IsEmptyOrIdle, IsFillingOf, IsLawful, IsLawfulSlot, IsTakenOf, keeps_all, KeepsOrEmpties, KeepsSlot, key_is_full, key_of_slot, List, map_get, Model, None, none-some, Pairs, Slot, slot_at, subst, sym, Table, TakesOne, true, ℕ, ⊎_elim, ◌∙◌, ◌≡◌, ◌⊎◌}
 
 -- a load takes a slot, and fills it or gives it up
 pub load_ends : (old mid new : List Slot) (slot : ℕ) → IsEmptyOrIdle (slot_at old slot) → EndsOnly old mid (IsTakenOf slot) → EndsOnly mid new (IsFillingOf slot) → TakesOne old new
@@ -24,7 +21,7 @@ copy_ends old mid new filling first then = (
 )
 
 -- no slot has a key that the model lacks
-pub lacks_key : (t : Table) (m : model.Store) (all : List Pairs) (id : ℕ) → IsLawful t → Agrees t.slots m all → map.get m.keys id ≡ None → (i : ℕ) → holds_key id (slot_at t.slots i) ≡ true → ⊥
+pub lacks_key : (t : Table) (m : Model) (all : List Pairs) (id : ℕ) → IsLawful t → Agrees t.slots m all → map_get m.keys id ≡ None → (i : ℕ) → holds_key id (slot_at t.slots i) ≡ true → ⊥
 lacks_key t m all id law agrees none i has =
     let within = full_within t.slots i (key_is_full id (slot_at t.slots i) has) in
     let sized = law.sized in

@@ -1,11 +1,6 @@
 -- Turns that finish a creation: what was decided of it, and how the turn ends.
-use Rattle.std.proofs.Common.{Err, List, None, Ok, Option, Result, Some, [], ap, arith, false, inl, inr, is_some, refl, subst, sym, true, ℕ, ◌++◌, ◌+◌, ◌∙◌, ◌∷◌, ◌≡◌, ◌≤◌}
-use Rattle.store_core.proofs.Common.{Agrees, AreHoldings, Attributes, Buffer, Doubt, Entry, FaultCounts, FaultMark, Hardware, HasFault, Holds, InvalidHandle, IsCreating, IsEntry, IsMaking, IsSince, IsTold, KeySlots, MayBeMarked, Opening, Pairs, Plain, Reading, RecordsStated, Service, StandsFor, Status, Storage, Store, Stored, Writing, created_unless, doubt_by, is_destruction, kept, key_changed, last_counts, option_map_or, reads_persistent, recorded_of, replay, serve}
-use Rattle.disk_face.specs.declared.Disk as Disk
-use Rattle.driver_dispatch.specs.declared.devices.Devices as Devices
-use Rattle.admission.specs.declared.rules.Admission as Admission
+use Rattle.store_core.proofs.Common.{[], AdmissionGhosts, Agrees, ap, AreHoldings, arith, Attributes, Buffer, created_unless, DevicesGhosts, DiskGhosts, Doubt, doubt_by, Entry, Err, false, FaultCounts, FaultMark, Hardware, HasFault, Holds, inl, inr, InvalidHandle, is_destruction, is_some, IsCreating, IsEntry, IsMaking, IsSince, IsTold, kept, key_changed, KeySlots, last_counts, List, MayBeMarked, Model, None, Ok, Opening, Option, option_map_or, Pairs, Plain, Reading, reads_persistent, recorded_of, RecordsStated, refl, replay, Result, serve, Service, Some, StandsFor, Status, Storage, Store, Stored, subst, sym, true, Writing, ℕ, ◌++◌, ◌+◌, ◌∙◌, ◌∷◌, ◌≡◌, ◌≤◌}
 use Rattle.slot_table.specs.Lent as lent
-use Rattle.store_model.specs.Store as model
 use Rattle.store_model.specs.Prelude.{Corrupt}
 use Rattle.store_core.proofs.Histories.{told_before}
 use Rattle.store_core.proofs.Holding.{goes_on, left_alone, same_device, counts_of}
@@ -13,7 +8,7 @@ use Rattle.store_core.proofs.Changing.{leaves}
 use Rattle.store_core.proofs.Makes.{IsFailure, IsRefusedAt, marked_counts, plain_counts, doubted, changes_none}
 
 -- what is recorded of stated attributes, where nothing refuses it
-pub stated_ok : (lease : Option lent.Reading) (caller : ℕ) (a : Attributes) (n : ℕ) (m : model.Store) (recorded : Attributes) → RecordsStated lease caller a n m (Ok recorded) → recorded_of m caller a n ≡ Ok recorded
+pub stated_ok : (lease : Option lent.Reading) (caller : ℕ) (a : Attributes) (n : ℕ) (m : Model) (recorded : Attributes) → RecordsStated lease caller a n m (Ok recorded) → recorded_of m caller a n ≡ Ok recorded
 stated_ok None caller a n m recorded is = sym is
 stated_ok (Some lease) caller a n m recorded (inl is) = sym is.1
 stated_ok (Some lease) caller a n m recorded (inr is) = absurd (apart recorded is.1) where
@@ -28,7 +23,7 @@ IsReadFault Plain = ⊥
 IsReadFault Hardware = ⊥
 IsReadFault (Storage (Writing closed_first)) = ⊥
 
-module _ {D A C : Type 0} (disks : Disk.Ghosts D) (elements : Devices.Ghosts A) (admits : Admission.Ghosts C) where
+module _ {D A C : Type 0} (disks : DiskGhosts D) (elements : DevicesGhosts A) (admits : AdmissionGhosts C) where
   abbrev HoldsWith : Store D A C → Service → Opening → List Entry → List Pairs → Entry → Type 0
   HoldsWith store start opening h all e = Holds disks elements admits (IsTold (disks.contents store.file.cells.disk) start (h ++ e ∷ [])) store start opening h all
 
@@ -62,7 +57,7 @@ module _ {D A C : Type 0} (disks : Disk.Ghosts D) (elements : Devices.Ghosts A) 
   }
 
   -- the request makes the key that was decided
-  pub is_making : (old mid : Store D A C) (start : Service) (h : List Entry) (e : Entry) (caller : ℕ) (records : model.Store → Result Attributes Status → Type 0) (bytes : model.Store → List ℕ) (m : model.Store) (recorded : Attributes) (b : List ℕ) →
+  pub is_making : (old mid : Store D A C) (start : Service) (h : List Entry) (e : Entry) (caller : ℕ) (records : Model → Result Attributes Status → Type 0) (bytes : Model → List ℕ) (m : Model) (recorded : Attributes) (b : List ℕ) →
       disks.contents mid.file.cells.disk ≡ disks.contents old.file.cells.disk → IsCreating disks elements admits old start h e caller records bytes → (IsTold (disks.contents mid.file.cells.disk) start (h ++ e ∷ []) → m ≡ (replay start h).store) →
       records m (Ok recorded) → bytes m ≡ b → IsMaking disks elements admits mid start h e caller recorded b
   is_making old mid start h e caller records bytes m recorded b same creating replayed decided is = record {
@@ -75,18 +70,18 @@ module _ {D A C : Type 0} (disks : Disk.Ghosts D) (elements : Devices.Ghosts A) 
     before k = subst (λ (t : Option (List ℕ)). IsTold t start h) same (told_before (disks.contents mid.file.cells.disk) start h e k)
 
     of_replay : IsTold (disks.contents mid.file.cells.disk) start (h ++ e ∷ []) → records (replay start h).store (Ok recorded)
-    of_replay k = subst (λ (x : model.Store). records x (Ok recorded)) (replayed k) decided
+    of_replay k = subst (λ (x : Model). records x (Ok recorded)) (replayed k) decided
 
     bytes_are : IsTold (disks.contents mid.file.cells.disk) start (h ++ e ∷ []) → bytes (replay start h).store ≡ b
     bytes_are k = ap bytes (sym (replayed k)) ∙ is
 
   -- or is refused
-  pub refused_at : (old : Store D A C) (start : Service) (h : List Entry) (e : Entry) (caller : ℕ) (records : model.Store → Result Attributes Status → Type 0) (bytes : model.Store → List ℕ) (m : model.Store) (status : Status) →
+  pub refused_at : (old : Store D A C) (start : Service) (h : List Entry) (e : Entry) (caller : ℕ) (records : Model → Result Attributes Status → Type 0) (bytes : Model → List ℕ) (m : Model) (status : Status) →
       IsCreating disks elements admits old start h e caller records bytes → (IsTold (disks.contents old.file.cells.disk) start (h ++ e ∷ []) → m ≡ (replay start h).store) →
       records m (Err status) → IsTold (disks.contents old.file.cells.disk) start (h ++ e ∷ []) → IsRefusedAt e status (replay start h)
   refused_at old start h e caller records bytes m status creating replayed decided k =
       let before = told_before (disks.contents old.file.cells.disk) start h e k in
-      let of_replay = subst (λ (x : model.Store). records x (Err status)) (replayed k) decided in
+      let of_replay = subst (λ (x : Model). records x (Err status)) (replayed k) decided in
       record { leaves = creating.leaves before (Err status) of_replay; answers = creating.answers before (Err status) of_replay }
 
   -- A creation that makes no key: its slot is given up.

@@ -1,8 +1,5 @@
 -- What a device has of the keys that are destroyed.
-use Rattle.std.proofs.Common.{List, Option, ap, cond, false, subst, sym, true, ℕ, ◌<◌, ◌∙◌, ◌≡◌}
-use Rattle.store_core.proofs.Common.{Agrees, cell_state, false_from_ne_true, false≢true, has_id, HeldKeys, holds_key, is_opaque, is_volatile, IsDirectory, IsForgotten, IsLawful, IsSoundStore, Key, key_of_slot, option_map, Pairs, same_Some, Slot, slot_at, Table, without_key}
-use Rattle.key_cells.specs.declared.state.CellState as cell
-use Rattle.store_model.specs.Store as model
+use Rattle.store_core.proofs.Common.{Agrees, ap, cell_state, CellState, cond, false, false_from_ne_true, false≢true, has_id, HeldKeys, holds_key, is_opaque, is_volatile, IsDirectory, IsForgotten, IsLawful, IsSoundStore, Key, key_of_slot, List, Model, Option, option_map, Pairs, same_Some, Slot, slot_at, subst, sym, Table, true, without_key, ℕ, ◌<◌, ◌∙◌, ◌≡◌}
 use Rattle.store_core.proofs.ByElement.{opaque_is_volatile}
 use Rattle.store_core.proofs.Kept.{key_of_cell}
 
@@ -11,7 +8,7 @@ pub local_forgotten : (slot : Slot) (held : Option HeldKeys) → is_opaque slot.
 local_forgotten slot held local = sym (ap (λ b. cond b (option_map (without_key slot.creation) held) held) local)
 
 -- nor one of a key that a cell has
-pub kept_forgotten : (cells : List cell.CellState) (slots : List Slot) (m : model.Store) (all : List Pairs) (id c i : ℕ) (held : Option HeldKeys) → IsDirectory cells m → IsSoundStore m → Agrees slots m all →
+pub kept_forgotten : (cells : List CellState) (slots : List Slot) (m : Model) (all : List Pairs) (id c i : ℕ) (held : Option HeldKeys) → IsDirectory cells m → IsSoundStore m → Agrees slots m all →
     c < 512 → has_id id (cell_state cells c) ≡ true → i < 384 → holds_key id (slot_at slots i) ≡ true → IsForgotten (slot_at slots i) held held
 kept_forgotten cells slots m all id c i held d sound agrees within has lt holds = local_forgotten (slot_at slots i) held (false_from_ne_true (is_opaque (slot_at slots i).attributes) (λ opaque.
     let k = key_of_slot slots m all id i agrees lt holds in

@@ -1,8 +1,6 @@
 -- The map of keys that were found, by their places in the list.
-use Rattle.std.proofs.Common.{Bool, List, None, Option, Some, [], ap, arith, cond, eq-eqb, false, find, length, ne_eqb, refl, slice_get, suc, sym, true, zero, ℕ, ◌+◌, ◌==◌, ◌∙◌, ◌∷◌, ◌≡◌}
-use Rattle.store_core.proofs.Common.{AreFoundKeys, eqb-true, false≢true, found_from, has_secure_element, IsKeyOf, Key, len_kept-empty, len_kept-insert, OpenedKey, put}
+use Rattle.store_core.proofs.Common.{[], ap, AreFoundKeys, arith, Bool, cond, eq-eqb, eqb-true, false, false≢true, find, found_from, has_secure_element, IsKeyOf, Key, len_kept-empty, len_kept-insert, length, List, map_get, map_get-empty, map_len, ne_eqb, None, OpenedKey, Option, put, refl, retain_keys, slice_get, Some, suc, sym, true, zero, ℕ, ◌+◌, ◌==◌, ◌∙◌, ◌∷◌, ◌≡◌}
 use Rattle.std.specs.Ordering.{nat_cmp}
-use Rattle.std.specs.FinMap as map
 use Rattle.store_model.specs.Prelude.{Store}
 use Rattle.store_core.proofs.Kept.{lasting, kept_checked}
 
@@ -40,11 +38,11 @@ pub record IsAt (n : ℕ) (found : List OpenedKey) (q : ℕ) (key : Key) : Type 
   pub named : id_of from ≡ q
   pub is : key ≡ numbered (n + place) from
 
-pub found_at : (n : ℕ) (found : List OpenedKey) (q : ℕ) (key : Key) → map.get (found_from n found) q ≡ Some key → IsAt n found q key
-found_at n [] q key e = let none = sym (map.get-empty nat_cmp q) ∙ e in absurd (cc)
+pub found_at : (n : ℕ) (found : List OpenedKey) (q : ℕ) (key : Key) → map_get (found_from n found) q ≡ Some key → IsAt n found q key
+found_at n [] q key e = let none = sym (map_get-empty nat_cmp q) ∙ e in absurd (cc)
 found_at n (k ∷ ks) q key e = of (found_at (n + 1) ks q key) (q == id_of k) refl (sym (put (found_from (n + 1) ks) (id_of k) (numbered n k) q) ∙ e)
   where
-    of : (map.get (found_from (n + 1) ks) q ≡ Some key → IsAt (n + 1) ks q key) → (b : Bool) → (q == id_of k) ≡ b → cond b (Some (numbered n k)) (map.get (found_from (n + 1) ks) q) ≡ Some key → IsAt n (k ∷ ks) q key
+    of : (map_get (found_from (n + 1) ks) q ≡ Some key → IsAt (n + 1) ks q key) → (b : Bool) → (q == id_of k) ≡ b → cond b (Some (numbered n k)) (map_get (found_from (n + 1) ks) q) ≡ Some key → IsAt n (k ∷ ks) q key
     of rest true t e =
         let is : numbered n k ≡ key = cc in
         record { place = 0; from = k; there = refl; named = sym (eqb-true q (id_of k) t); is = sym is ∙ ap (λ (m : ℕ). numbered m k) (omega arith) }
@@ -52,17 +50,17 @@ found_at n (k ∷ ks) q key e = of (found_at (n + 1) ks q key) (q == id_of k) re
         let f = rest e in
         record { place = suc f.place; from = f.from; there = f.there; named = f.named; is = f.is ∙ ap (λ (m : ℕ). numbered m f.from) (omega arith) }
 
-pub at_found : (n : ℕ) (found : List OpenedKey) → HasEachOnce found → (place : ℕ) (key : OpenedKey) → slice_get found place ≡ Some key → map.get (found_from n found) (id_of key) ≡ Some (numbered (n + place) key)
+pub at_found : (n : ℕ) (found : List OpenedKey) → HasEachOnce found → (place : ℕ) (key : OpenedKey) → slice_get found place ≡ Some key → map_get (found_from n found) (id_of key) ≡ Some (numbered (n + place) key)
 at_found n [] once place key e = absurd (cc)
 at_found n (k ∷ ks) once zero key e =
     let is : k ≡ key = cc in
     put (found_from (n + 1) ks) (id_of k) (numbered n k) (id_of key)
-    ∙ ap (λ b. cond b (Some (numbered n k)) (map.get (found_from (n + 1) ks) (id_of key))) (eq-eqb (id_of key) (id_of k) (ap id_of (sym is)))
+    ∙ ap (λ b. cond b (Some (numbered n k)) (map_get (found_from (n + 1) ks) (id_of key))) (eq-eqb (id_of key) (id_of k) (ap id_of (sym is)))
     ∙ ap (λ (x : OpenedKey). Some (numbered n x)) is
     ∙ ap (λ (m : ℕ). Some (numbered m key)) (omega arith)
 at_found n (k ∷ ks) once (suc place) key e =
     put (found_from (n + 1) ks) (id_of k) (numbered n k) (id_of key)
-    ∙ ap (λ b. cond b (Some (numbered n k)) (map.get (found_from (n + 1) ks) (id_of key))) (ne_eqb (id_of key) (id_of k) (other_id k ks once place key e))
+    ∙ ap (λ b. cond b (Some (numbered n k)) (map_get (found_from (n + 1) ks) (id_of key))) (ne_eqb (id_of key) (id_of k) (other_id k ks once place key e))
     ∙ at_found (n + 1) ks (once_after k ks once) place key e
     ∙ ap (λ (m : ℕ). Some (numbered m key)) (omega arith)
 
@@ -84,10 +82,10 @@ are_found store (k ∷ ks) kept once =
 
 -- HOW MANY THERE ARE
 
-absent : (n : ℕ) (k : OpenedKey) (ks : List OpenedKey) → HasEachOnce (k ∷ ks) → map.get (found_from n ks) (id_of k) ≡ None
-absent n k ks once = of (map.get (found_from n ks) (id_of k)) refl
+absent : (n : ℕ) (k : OpenedKey) (ks : List OpenedKey) → HasEachOnce (k ∷ ks) → map_get (found_from n ks) (id_of k) ≡ None
+absent n k ks once = of (map_get (found_from n ks) (id_of k)) refl
   where
-    of : (o : Option Key) → map.get (found_from n ks) (id_of k) ≡ o → o ≡ None
+    of : (o : Option Key) → map_get (found_from n ks) (id_of k) ≡ o → o ≡ None
     of None e = refl
     of (Some key) e = let f = found_at n ks (id_of k) key e in absurd (other_id k ks once f.place f.from f.there f.named)
 
@@ -103,8 +101,8 @@ none false = refl
 
 -- all of them, or none, where a test answers the same for each
 pub counted : (p : ℕ → Bool) (b : Bool) (n : ℕ) (found : List OpenedKey) → HasEachOnce found → ((i : ℕ) (key : OpenedKey) → slice_get found i ≡ Some key → p (id_of key) ≡ b) →
-    map.len (map.retain_keys (found_from n found) p) ≡ cond b (length found) 0
+    map_len (retain_keys (found_from n found) p) ≡ cond b (length found) 0
 counted p b n [] once each = len_kept-empty Key p ∙ none b
 counted p b n (k ∷ ks) once each =
     len_kept-insert p (found_from (n + 1) ks) (id_of k) (numbered n k) (absent (n + 1) k ks once)
-    ∙ one_more b (p (id_of k)) (map.len (map.retain_keys (found_from (n + 1) ks) p)) (length ks) (each 0 k refl) (counted p b (n + 1) ks (once_after k ks once) (λ i key e. each (suc i) key e))
+    ∙ one_more b (p (id_of k)) (map_len (retain_keys (found_from (n + 1) ks) p)) (length ks) (each 0 k refl) (counted p b (n + 1) ks (once_after k ks once) (λ i key e. each (suc i) key e))

@@ -1,7 +1,5 @@
 -- How the cells that a history has freed go on with a call.
-use Rattle.std.proofs.Common.{Bool, List, [], arith, cond, eq-eqb, false, inl, inr, refl, subst, sym, true, ℕ, ⊎_elim, ◌++◌, ◌<◌, ◌==◌, ◌∙◌, ◌∷◌, ◌≡◌, ◌≢◌, ◌⊎◌}
-use Rattle.store_core.proofs.Common.{cases_lt, cell_state, CellState, ChangesFreed, Entry, false≢true, FaultMark, Free, FreedCell, FreedCellsAreZeros, HasFreed, HasZeros, HaveFreed, is_destruction, is_persistent_key, IsFirstWithoutKey, IsFreeSince, IsZerosSince, key_changed, outcome_of, Plain, replay, Service, Within, without_cell}
-use Rattle.disk_face.specs.declared.Disk as Disk
+use Rattle.store_core.proofs.Common.{[], arith, Bool, cases_lt, cell_state, CellState, ChangesFreed, cond, DiskGhosts, Entry, eq-eqb, false, false≢true, FaultMark, Free, FreedCell, FreedCellsAreZeros, HasFreed, HasZeros, HaveFreed, inl, inr, is_destruction, is_persistent_key, IsFirstWithoutKey, IsFreeSince, IsZerosSince, key_changed, List, outcome_of, Plain, refl, replay, Service, subst, sym, true, Within, without_cell, ℕ, ⊎_elim, ◌++◌, ◌<◌, ◌==◌, ◌∙◌, ◌∷◌, ◌≡◌, ◌≢◌, ◌⊎◌}
 use Rattle.std.specs.List.{AllByRecursion}
 use Rattle.key_cells.specs.Contents as contents
 
@@ -39,7 +37,7 @@ all_map P Q [] each all = tt
 all_map P Q (f ∷ fs) each all = (each f all.0, all_map P Q fs each all.1)
 
 -- so the cells that a history has freed are zeros
-pub freed_zeros : {D : Type 0} (disks : Disk.Ghosts D) (disk : D) (slots : List CellState) (start : Service) (h : List Entry) → HaveFreed (IsFreeSince disks disk slots) start h → FreedCellsAreZeros (disks.left_since disk) start h
+pub freed_zeros : {D : Type 0} (disks : DiskGhosts D) (disk : D) (slots : List CellState) (start : Service) (h : List Entry) → HaveFreed (IsFreeSince disks disk slots) start h → FreedCellsAreZeros (disks.left_since disk) start h
 freed_zeros disks disk slots start h f = (f.0, f.1, all_map (IsFreeSince disks disk slots) (IsZerosSince (disks.left_since disk)) f.0 (λ freed was. was.zeros) f.2)
 
 -- there is one first cell without a key
@@ -50,7 +48,7 @@ one_first slots cell other first second =
     (λ most. ⊎_elim (λ more. absurd (false≢true (sym second.here ∙ first.before other more))) (λ least. omega (arith, most, least)) (cases_lt other cell))
     (cases_lt cell other)
 
-module _ {D : Type 0} (disks : Disk.Ghosts D) (old new : D) (slots slots' : List CellState) where
+module _ {D : Type 0} (disks : DiskGhosts D) (old new : D) (slots slots' : List CellState) where
   abbrev Was : FreedCell → Type 0
   Was = IsFreeSince disks old slots
 

@@ -1,10 +1,5 @@
 -- A history with one more entry.
-use Rattle.std.proofs.Common.{Bool, List, None, Option, Some, [], ap, false, inl, inr, not, refl, subst, sym, true, ℕ, ◌&&◌, ◌++◌, ◌==◌, ◌∙◌, ◌∷◌, ◌≡◌}
-use Rattle.store_core.proofs.Common.{Course, Destroy, Entry, FaultCounts, FaultMark, FitsCourse, InvalidHandle, IsTold, Key, LeavesKeys, OnHandle, OnStore, Plain, ReadsNone, Reply, Request, Service, Stored, Success, after, after_all, after_all_push, counted, course_of, decided, destroy_rows, destroyed, doubt_after, doubt_by, false≢true, first_row, is_destruction, kept, key_changed, last_counts, may_change_keys, next_random, opened, option_map_or, outcome_of, own_of, plain_step, reads_persistent, replay, serve}
-use Rattle.disk_face.specs.declared.Disk as Disk
-use Rattle.driver_dispatch.specs.declared.devices.Devices as Devices
-use Rattle.admission.specs.declared.rules.Admission as Admission
-use Rattle.std.specs.FinMap as map
+use Rattle.store_core.proofs.Common.{[], AdmissionGhosts, after, after_all, after_all_push, ap, Bool, counted, Course, course_of, decided, Destroy, destroy_rows, destroyed, DevicesGhosts, DiskGhosts, doubt_after, doubt_by, Entry, false, false≢true, FaultCounts, FaultMark, first_row, FitsCourse, inl, inr, InvalidHandle, is_destruction, IsTold, kept, Key, key_changed, last_counts, LeavesKeys, List, map_get, may_change_keys, next_random, None, not, OnHandle, OnStore, opened, Option, option_map_or, outcome_of, own_of, Plain, plain_step, reads_persistent, ReadsNone, refl, replay, Reply, Request, serve, Service, Some, Stored, subst, Success, sym, true, ℕ, ◌&&◌, ◌++◌, ◌==◌, ◌∙◌, ◌∷◌, ◌≡◌}
 use Rattle.store_model.specs.Prelude.{Store}
 use Rattle.store_model.proofs.DrawnBytes.{length-random}
 use Rattle.store_model.proofs.StoreShape.{MakesNone, store_shape}
@@ -69,10 +64,6 @@ quiet_doubt e s none = ap (λ (o : Option Key). option_map_or (λ (key : Stored)
 pub course_push : (start : Service) (h : List Entry) (e : Entry) → course_of start (h ++ e ∷ []) ≡ after e (course_of start h)
 course_push start h e = after_all_push after FitsCourse (opened start) h e (opened start)
 
--- so it does in the course of a history
-pub course_doubt : (start : Service) (h : List Entry) (e : Entry) → key_changed (replay start h) e.caller e.call ≡ None → doubt_after e (course_of start h) ≡ (course_of start h).doubt
-course_doubt start h e none = quiet_doubt e (course_of start h) (ap (λ (s : Service). key_changed s e.caller e.call) (course_service start h) ∙ none)
-
 -- REFUSALS
 
 abbrev IsRefusal : Reply → Type 0
@@ -101,7 +92,7 @@ undestroyed store id (Some key) fails = absurd (fails (granted (not (id == 0))))
 
 -- a refused request changes no key
 refused_changes : (service : Service) (caller : ℕ) (request : Request) → IsRefusal (plain_step service caller request).reply → key_changed service caller request ≡ None
-refused_changes service caller (OnStore (Destroy id)) fails = undestroyed service.store id (map.get service.store.keys id) fails
+refused_changes service caller (OnStore (Destroy id)) fails = undestroyed service.store id (map_get service.store.keys id) fails
 refused_changes service caller request fails = refused_reply service caller request fails (plain_step service caller request).service.store
 
 -- and leaves the store but for the count
@@ -111,7 +102,7 @@ refused_counts service caller (OnHandle handle call) fails = ap (λ (s : Service
 
 -- REQUESTS THAT LEAVE ALL KEYS
 
-module _ {D A C : Type 0} (disks : Disk.Ghosts D) (elements : Devices.Ghosts A) (admits : Admission.Ghosts C) (store : core.Store D A C) (start : Service) (h : List Entry) (e : Entry) where
+module _ {D A C : Type 0} (disks : DiskGhosts D) (elements : DevicesGhosts A) (admits : AdmissionGhosts C) (store : core.Store D A C) (start : Service) (h : List Entry) (e : Entry) where
   abbrev Leaves : Type 0
   Leaves = LeavesKeys disks elements admits store start h e
 

@@ -1,10 +1,5 @@
 -- A store that holds keys, after a turn that leaves all.
-use Rattle.std.proofs.Common.{List, Option, ap, arith, inl, inr, is_some, length, refl, subst, sym, true, ℕ, ⊎_elim, ◌+◌, ◌∙◌, ◌≡◌, ◌≤◌, ◌⊎◌}
-use Rattle.store_core.proofs.Common.{after, Agrees, AreHoldings, Buffer, cell_state, counted, course_of, Doubt, durable_keys, Entry, FaultCounts, fits_least, fits_whole, FitsCourse, FitsEitherKeys, FitsFrom, FitsKeys, HasModel, HeldKeys, Holds, HoldsKeys, IsCaused, IsDirectory, IsSure, IsTold, KeepsPromise, KeyFile, Keys, KeySlots, Leads, opened, Opening, Pairs, Service, StandsFor, StandsForKeys, stays, Store, Within}
-use Rattle.disk_face.specs.declared.Disk as Disk
-use Rattle.driver_dispatch.specs.declared.devices.Devices as Devices
-use Rattle.admission.specs.declared.rules.Admission as Admission
-use Rattle.store_model.specs.Store as model
+use Rattle.store_core.proofs.Common.{AdmissionGhosts, after, Agrees, ap, AreHoldings, arith, Buffer, cell_state, counted, course_of, DevicesGhosts, DiskGhosts, Doubt, durable_keys, Entry, FaultCounts, fits_least, fits_whole, FitsCourse, FitsEitherKeys, FitsFrom, FitsKeys, HasModel, HeldKeys, Holds, HoldsKeys, inl, inr, is_some, IsCaused, IsDirectory, IsSure, IsTold, KeepsPromise, KeyFile, Keys, KeySlots, Leads, length, List, Model, opened, Opening, Option, Pairs, refl, Service, StandsFor, StandsForKeys, stays, Store, subst, sym, true, Within, ℕ, ⊎_elim, ◌+◌, ◌∙◌, ◌≡◌, ◌≤◌, ◌⊎◌}
 use Rattle.store_core.proofs.Freeing.{all_still}
 use Rattle.store_core.proofs.Histories.{course_service}
 
@@ -25,13 +20,13 @@ abbrev pub counts_of : ℕ → ℕ → FaultCounts
 counts_of n m = record { faults = n; device_faults = m }
 
 -- the same keys as a directory and a device have them
-pub same_directory : (slots : List _) (m : model.Store) → IsDirectory slots m → IsDirectory slots (counted m)
+pub same_directory : (slots : List _) (m : Model) → IsDirectory slots m → IsDirectory slots (counted m)
 same_directory slots m d = record { sized = d.sized; there = d.there; only = d.only; one = d.one }
 
-pub same_device : (held : Option HeldKeys) (m : model.Store) → HoldsKeys held m → HoldsKeys held (counted m)
+pub same_device : (held : Option HeldKeys) (m : Model) → HoldsKeys held m → HoldsKeys held (counted m)
 same_device held m d = record { there = d.there; new = λ handle le. d.new handle (omega (arith, le)) }
 
-module _ {D A C : Type 0} (disks : Disk.Ghosts D) (elements : Devices.Ghosts A) (admits : Admission.Ghosts C) where
+module _ {D A C : Type 0} (disks : DiskGhosts D) (elements : DevicesGhosts A) (admits : AdmissionGhosts C) where
   -- a store after its file was read
   abbrev pub moved : Store D A C → KeyFile D → KeySlots → Buffer → Store D A C
   moved store file slots buffer = record store { file = file; slots = slots; buffer = buffer }
@@ -55,7 +50,7 @@ module _ {D A C : Type 0} (disks : Disk.Ghosts D) (elements : Devices.Ghosts A) 
   }
 
   -- the model of a store
-  pub has_model : {K K' : Type 0} {store : Store D A C} {start : Service} {opening : Opening} {h : List Entry} {all : List Pairs} {P : model.Store → Type 0} (n : Holds disks elements admits K store start opening h all) → (K' → K) → P n.model → HasModel K' start h P
+  pub has_model : {K K' : Type 0} {store : Store D A C} {start : Service} {opening : Opening} {h : List Entry} {all : List Pairs} {P : Model → Type 0} (n : Holds disks elements admits K store start opening h all) → (K' → K) → P n.model → HasModel K' start h P
   has_model n known is = record { model = n.model; replayed = λ k. n.replayed (known k); sound = n.sound; settings = n.settings; calls = n.calls ∙ n.ranked; holds = is }
 
   -- No key changes, and no entry is added: the file was read, the slots have these holdings, and a device has what it had.
@@ -85,7 +80,7 @@ module _ {D A C : Type 0} (disks : Disk.Ghosts D) (elements : Devices.Ghosts A) 
       sure = λ is none. subst (λ (c : _). IsSure c.items) (sym read.slots) (s.sure (before is) none);
       promise = λ is. promise_stays (disks.left_since old.file.cells.disk) (disks.left_since file.cells.disk) (disks.moment old.file.cells.disk) (disks.moment file.cells.disk) opening.moment start h
           (FitsEitherKeys (durable_keys s.model) (course_of start h).doubt (durable_keys s.model) (course_of start h).doubt) (s.promise (before is)) (leads is).within
-          (λ image fits. subst (λ (x : model.Store). FitsKeys (durable_keys x) (course_of start h).doubt image) (s.replayed (told (before is)) ∙ ap (λ (x : Service). x.store) (sym (course_service start h))) (⊎_elim (λ f. f) (λ f. f) fits));
+          (λ image fits. subst (λ (x : Model). FitsKeys (durable_keys x) (course_of start h).doubt image) (s.replayed (told (before is)) ∙ ap (λ (x : Service). x.store) (sym (course_service start h))) (⊎_elim (λ f. f) (λ f. f) fits));
       freed = λ is. let f = s.freed (before is) in
           (f.0, f.1, all_still disks old.file.cells.disk file.cells.disk old.file.cells.states.items file.cells.states.items (leads is).zeros (λ cell lt free. ap (λ (c : _). cell_state c.items cell) read.slots ∙ free) f.0 f.2);
       caused = subst (λ (t : Option (List ℕ)). IsCaused (is_some t) opening.counts h) (sym read.same) s.caused;

@@ -1,38 +1,25 @@
 -- What the directory says of the keys, and keys as a file keeps them.
-use Rattle.std.proofs.Common.{Bool, List, None, Ok, Option, Some, [], ap, arith, bit_and, cond, eq-eqb, false, is_some, length, nat_le, not, refl, subst, sym, true, ℕ, ◌&&◌, ◌*◌, ◌<◌, ◌==◌, ◌∙◌, ◌∷◌, ◌≡◌, ◌≤◌}
-use Rattle.store_core.proofs.Common.{and_parts, and_right, as_stated, attribute_rows, Attributes, cell_state, checked, cond-false, creation_of_state, eqb-true, false≢true, filled, first_row, first_row-back, has_id, HasNoKey, identified, implied_usage, InvalidArgument, InvalidHandle, is_lifetime, is_opaque, is_persistent_key, is_stated_id, is_volatile, IsDirectory, IsKeyOf, IsVolatileKey, Key, nat_tests, NotSupported, Open, persistence, size_rows, there_rows, unless, unless-ok}
-use Rattle.std.specs.FinMap as map
-use Rattle.key_cells.specs.declared.state.CellState as cell
-use Rattle.store_model.specs.Store as model
+use Rattle.store_core.proofs.Common.{[], and_parts, and_right, ap, arith, as_stated, attribute_rows, Attributes, bit_and, Bool, cell_state, CellState, checked, cond, cond-false, creation_of_state, eq-eqb, eqb-true, false, false≢true, filled, first_row, first_row-back, has_id, HasNoKey, identified, implied_usage, InvalidArgument, is_lifetime, is_opaque, is_persistent_key, is_stated_id, is_volatile, IsDirectory, IsKeyOf, IsVolatileKey, Key, length, List, map_get, Model, nat_le, nat_tests, None, not, NotSupported, Ok, Open, Option, persistence, refl, size_rows, Some, subst, sym, true, unless, unless-ok, ℕ, ◌&&◌, ◌*◌, ◌<◌, ◌==◌, ◌∙◌, ◌∷◌, ◌≡◌, ◌≤◌}
 
 -- THE DIRECTORY
 
 -- a cell's key, which is persistent
-abbrev pub HasCellKey : model.Store → (id number : ℕ) → Type 0
-HasCellKey m id number = (key : Key) × (map.get m.keys id ≡ Some key) × (is_volatile key.attributes ≡ false) × (key.number ≡ number)
+abbrev pub HasCellKey : Model → (id number : ℕ) → Type 0
+HasCellKey m id number = (key : Key) × (map_get m.keys id ≡ Some key) × (is_volatile key.attributes ≡ false) × (key.number ≡ number)
 
-pub key_of_cell : (slots : List cell.CellState) (m : model.Store) (id c : ℕ) → IsDirectory slots m → c < 512 → has_id id (cell_state slots c) ≡ true → HasCellKey m id (creation_of_state (cell_state slots c))
+pub key_of_cell : (slots : List CellState) (m : Model) (id c : ℕ) → IsDirectory slots m → c < 512 → has_id id (cell_state slots c) ≡ true → HasCellKey m id (creation_of_state (cell_state slots c))
 key_of_cell slots m id c d lt has = go (cell_state slots c) refl has where
-  go : (slot : cell.CellState) → cell_state slots c ≡ slot → has_id id slot ≡ true → HasCellKey m id (creation_of_state slot)
+  go : (slot : CellState) → cell_state slots c ≡ slot → has_id id slot ≡ true → HasCellKey m id (creation_of_state slot)
   go (Open own number) at is = subst (λ (n : ℕ). HasCellKey m n number) (eqb-true own id is) (d.only c own number lt at)
   go slot at is = absurd (false≢true is)
 
 pub is_persistent : (o : Option Key) (key : Key) → o ≡ Some key → is_volatile key.attributes ≡ false → is_persistent_key o ≡ true
 is_persistent o key is lasts = ap is_persistent_key is ∙ ap not lasts
 
--- the row that asks for a key
-pub is_there : (o : Option Key) → is_some o ≡ true → there_rows o ≡ None
-is_there None is = absurd (false≢true is)
-is_there (Some key) is = refl
-
-pub is_missing : (o : Option Key) → is_some o ≡ false → there_rows o ≡ Some InvalidHandle
-is_missing None is = refl
-is_missing (Some key) is = absurd (false≢true (sym is))
-
 -- there is no key where no slot has a volatile one and no cell has one
-pub no_key : (slots : List cell.CellState) (m : model.Store) (id : ℕ) → IsDirectory slots m → HasNoKey slots id → (IsVolatileKey (map.get m.keys id) → ⊥) → map.get m.keys id ≡ None
-no_key slots m id d none lasts = go (map.get m.keys id) refl lasts where
-  in_cell : (key : Key) → map.get m.keys id ≡ Some key → (b : Bool) → is_volatile key.attributes ≡ b → (b ≡ true → ⊥) → ⊥
+pub no_key : (slots : List CellState) (m : Model) (id : ℕ) → IsDirectory slots m → HasNoKey slots id → (IsVolatileKey (map_get m.keys id) → ⊥) → map_get m.keys id ≡ None
+no_key slots m id d none lasts = go (map_get m.keys id) refl lasts where
+  in_cell : (key : Key) → map_get m.keys id ≡ Some key → (b : Bool) → is_volatile key.attributes ≡ b → (b ≡ true → ⊥) → ⊥
   in_cell key is true volatile lasts = lasts refl
   in_cell key is false persistent lasts =
       let there = d.there id key is persistent in
@@ -40,7 +27,7 @@ no_key slots m id d none lasts = go (map.get m.keys id) refl lasts where
       let inside = there.1 in
       false≢true (sym (none there.0 (omega arith)) ∙ (ap (has_id id) there.2 ∙ eq-eqb id id refl))
 
-  go : (o : Option Key) → map.get m.keys id ≡ o → (IsVolatileKey o → ⊥) → o ≡ None
+  go : (o : Option Key) → map_get m.keys id ≡ o → (IsVolatileKey o → ⊥) → o ≡ None
   go None is lasts = refl
   go (Some key) is lasts = absurd (in_cell key is (is_volatile key.attributes) refl lasts)
 
@@ -54,7 +41,7 @@ module _ (a : Attributes) (bytes : List ℕ) (is : IsKeyOf a bytes) where
   lasting = ap (λ n. persistence n == 0) is.kept.lifetime
 
   pub local : is_opaque a ≡ false
-  local = ap (λ n. model.is_opaque (record a { lifetime = record { 0 = n } })) is.kept.lifetime
+  local = ap (λ n. is_opaque (record a { lifetime = record { 0 = n } })) is.kept.lifetime
 
   abbrev usage : ℕ
   usage = a.policy.usage.0

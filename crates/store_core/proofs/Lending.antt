@@ -1,7 +1,5 @@
 -- The bytes of a key that is lent.
-use Rattle.std.proofs.Common.{Bool, IsTrue, None, Some, [], ap, cond, false, length, refl, subst, true, ℕ, ◌≡◌}
-use Rattle.store_core.proofs.Common.{as_stated, attribute_rows, Attributes, filled, first_row, has_secure_element, identified, is_volatile, IsSoundKey, Key, KeyUse, local, none_holds, not-false, permits_size, slot_bytes, unless-ok, use_refusal}
-use Rattle.store_model.specs.Store as model
+use Rattle.store_core.proofs.Common.{[], ap, as_stated, attribute_rows, Attributes, Bool, cond, false, filled, first_row, has_secure_element, identified, is_volatile, IsSoundKey, IsTrue, Key, KeyUse, length, local, Model, None, none_holds, not-false, permits_size, refl, slot_bytes, Some, subst, true, unless-ok, use_refusal, ℕ, ◌≡◌}
 
 -- the slot of a local key has its bytes
 pub has_bytes : (wanted : KeyUse) (key : Key) → use_refusal wanted (Some key) ≡ None → slot_bytes key ≡ key.bytes
@@ -13,7 +11,7 @@ same_type true a = refl
 same_type false a = refl
 
 -- a key has a number of bytes that its type permits
-pub sized : (m : model.Store) (id : ℕ) (key : Key) → IsSoundKey m id key → IsTrue (permits_size key.attributes.key_type.0 (length key.bytes))
+pub sized : (m : Model) (id : ℕ) (key : Key) → IsSoundKey m id key → IsTrue (permits_size key.attributes.key_type.0 (length key.bytes))
 sized m id key sound =
     let a = as_stated key.attributes in
     let n = length key.bytes in

@@ -32,4 +32,3 @@ mod Ending
 mod Zeroed
 mod Forgotten
 mod Missing
-mod Named

@@ -1,25 +1,19 @@
 -- A key that was loaded from the file.
-use Rattle.std.proofs.Common.{Bool, List, None, Option, Some, [], ap, arith, cond, false, inl, inr, is_some, nat_lt, refl, subst, sym, true, ℕ, ◌++◌, ◌<◌, ◌∙◌, ◌∷◌, ◌≡◌}
-use Rattle.store_core.proofs.Common.{Agrees, Attributes, Buffer, bytes-buffer_of, cell_state, creation_of_state, durable_keys, Entry, false≢true, full_slot, Gains, has_id, Holds, id_read, is_opaque, is_persistent_key, is_volatile_of, IsCaused, IsDirectory, IsKeyOf, IsTold, kept, Key, KeyFile, KeySlots, NoKey, Opening, option_and_then, Pairs, Puts, reads_persistent, replay, Request, Service, Slot, SlotHasKey, Store, Stored, stored}
-use Rattle.disk_face.specs.declared.Disk as Disk
-use Rattle.driver_dispatch.specs.declared.devices.Devices as Devices
-use Rattle.admission.specs.declared.rules.Admission as Admission
-use Rattle.std.specs.FinMap as map
-use Rattle.store_model.specs.Store as model
+use Rattle.store_core.proofs.Common.{[], AdmissionGhosts, Agrees, ap, arith, Attributes, Bool, Buffer, bytes-buffer_of, cell_state, cond, creation_of_state, DevicesGhosts, DiskGhosts, durable_keys, Entry, false, false≢true, full_slot, Gains, has_id, Holds, id_read, inl, inr, is_opaque, is_persistent_key, is_some, is_volatile_of, IsCaused, IsDirectory, IsKeyOf, IsTold, kept, Key, KeyFile, KeySlots, List, map_get, Model, nat_lt, NoKey, None, Opening, Option, option_and_then, Pairs, Puts, reads_persistent, refl, replay, Request, Service, Slot, SlotHasKey, Some, Store, Stored, stored, subst, sym, true, ℕ, ◌++◌, ◌<◌, ◌∙◌, ◌∷◌, ◌≡◌}
 use Rattle.store_core.proofs.Histories.{reads_last, told_before}
 use Rattle.store_core.proofs.Holding.{IsReadOn, moved, goes_on}
 use Rattle.store_core.proofs.Kept.{HasCellKey, key_of_cell, is_persistent, local}
 use Rattle.store_core.proofs.Replaced.{replaced, same_count, put_here, sound_after, directory_after, device_after, agrees_after}
 
 -- a request reads a persistent key where that of its identifier is one
-pub reads_it : (service : Service) (caller : ℕ) (request : Request) (id : ℕ) (m : model.Store) → id_read service caller request ≡ Some id → m ≡ service.store →
-    reads_persistent service caller request ≡ is_persistent_key (map.get m.keys id)
+pub reads_it : (service : Service) (caller : ℕ) (request : Request) (id : ℕ) (m : Model) → id_read service caller request ≡ Some id → m ≡ service.store →
+    reads_persistent service caller request ≡ is_persistent_key (map_get m.keys id)
 reads_it service caller request id m reads same =
-    ap (λ (o : Option ℕ). is_persistent_key (option_and_then (map.get service.store.keys) o)) reads ∙ ap (λ (s : model.Store). is_persistent_key (map.get s.keys id)) (sym same)
+    ap (λ (o : Option ℕ). is_persistent_key (option_and_then (map_get service.store.keys) o)) reads ∙ ap (λ (s : Model). is_persistent_key (map_get s.keys id)) (sym same)
 
 -- over a disk that doesn't tell its bytes no more is told once a persistent key was read
-untold : (told : Option (List ℕ)) (start : Service) (h : List Entry) (e : Entry) (id : ℕ) (m : model.Store) → is_some told ≡ false → (IsTold told start h → id_read (replay start h) e.caller e.call ≡ Some id) →
-    (IsTold told start h → m ≡ (replay start h).store) → is_persistent_key (map.get m.keys id) ≡ true → IsTold told start (h ++ e ∷ []) → ⊥
+untold : (told : Option (List ℕ)) (start : Service) (h : List Entry) (e : Entry) (id : ℕ) (m : Model) → is_some told ≡ false → (IsTold told start h → id_read (replay start h) e.caller e.call ≡ Some id) →
+    (IsTold told start h → m ≡ (replay start h).store) → is_persistent_key (map_get m.keys id) ≡ true → IsTold told start (h ++ e ∷ []) → ⊥
 untold told start h e id m blind reads same persistent (inl tells) = false≢true (sym blind ∙ tells)
 untold told start h e id m blind reads same persistent (inr none) =
     let known = told_before told start h e (inr none) in
@@ -32,13 +26,13 @@ pub record IsLoaded (key : Key) (number : ℕ) (a : Attributes) (bytes : List �
   pub has_bytes : key.bytes ≡ bytes
 
 -- a store has the loaded key
-abbrev pub HasLoaded : model.Store → (id number : ℕ) → Attributes → List ℕ → Type 0
-HasLoaded m id number a bytes = (key : Key) × (map.get m.keys id ≡ Some key) × IsLoaded key number a bytes
+abbrev pub HasLoaded : Model → (id number : ℕ) → Attributes → List ℕ → Type 0
+HasLoaded m id number a bytes = (key : Key) × (map_get m.keys id ≡ Some key) × IsLoaded key number a bytes
 
 stored_same : (x y : Stored) → Some x ≡ Some y → x ≡ y
 stored_same x y e = cc
 
-file_key : (m : model.Store) (id number : ℕ) (a : Attributes) (bytes : List ℕ) → HasCellKey m id number → durable_keys m id ≡ Some (stored number a bytes) → HasLoaded m id number a bytes
+file_key : (m : Model) (id number : ℕ) (a : Attributes) (bytes : List ℕ) → HasCellKey m id number → durable_keys m id ≡ Some (stored number a bytes) → HasLoaded m id number a bytes
 file_key m id number a bytes k filed =
     let own = stored k.0.number k.0.attributes k.0.bytes in
     let is : durable_keys m id ≡ Some own = ap kept k.1 ∙ ap (λ b. cond b None (Some own)) k.2 in
@@ -53,14 +47,14 @@ filled_has slot key number a bytes filled is l = subst (λ (s : Slot). SlotHasKe
   bytes = bytes-buffer_of bytes ∙ sym (ap (λ b. cond b [] key.bytes) (ap is_opaque l.has_attributes ∙ local a bytes is) ∙ l.has_bytes);
 })
 
-pub stays_put : (m : model.Store) (id : ℕ) (key : Key) → map.get m.keys id ≡ Some key → Puts m m id (Some key)
+pub stays_put : (m : Model) (id : ℕ) (key : Key) → map_get m.keys id ≡ Some key → Puts m m id (Some key)
 stays_put m id key there = record { here = there; others = λ q other. refl; given = omega arith }
 
 -- one more caller has this pair, and nothing else
 pub gains_one : (all : List Pairs) (p : ℕ × ℕ) → Gains all ((p ∷ []) ∷ all) p
 gains_one all p = λ i n. omega arith
 
-module _ {D A C : Type 0} (disks : Disk.Ghosts D) (elements : Devices.Ghosts A) (admits : Admission.Ghosts C)
+module _ {D A C : Type 0} (disks : DiskGhosts D) (elements : DevicesGhosts A) (admits : AdmissionGhosts C)
     (old : Store D A C) (file : KeyFile D) (slots : KeySlots) (buffer : Buffer) (start : Service) (opening : Opening) (h : List Entry) (all : List Pairs) (e : Entry) where
   abbrev told_here : Option (List ℕ)
   told_here = disks.contents old.file.cells.disk
@@ -75,7 +69,7 @@ module _ {D A C : Type 0} (disks : Disk.Ghosts D) (elements : Devices.Ghosts A) 
   known same k = subst (λ (t : Option (List ℕ)). IsTold t start (h ++ e ∷ [])) same k
 
   -- the store holds the keys that it held
-  pub brings : (P : model.Store → Type 0) → IsReadOn disks elements admits old.file file → (s : HoldsBefore) → Agrees slots.table.slots s.model all → P s.model → (n : HoldsAfter) × P n.model
+  pub brings : (P : Model → Type 0) → IsReadOn disks elements admits old.file file → (s : HoldsBefore) → Agrees slots.table.slots s.model all → P s.model → (n : HoldsAfter) × P n.model
   brings P read s agrees is =
       let n = goes_on disks elements admits old start opening h file slots buffer all (IsTold (disks.contents file.cells.disk) start (h ++ e ∷ [])) read
       (λ k. told_before told_here start h e (known read.same k)) s agrees in
@@ -92,7 +86,7 @@ module _ {D A C : Type 0} (disks : Disk.Ghosts D) (elements : Devices.Ghosts A) 
     pub loads : IsReadOn disks elements admits old.file file → (s : HoldsBefore) →
         (IsTold told_here start h → id_read (replay start h) e.caller e.call ≡ Some id) → c < 512 → has_id id (cell_state old.file.cells.states.items c) ≡ true → IsKeyOf a bytes → a.id.0 ≡ id →
         (is_some told_here ≡ true → durable_keys s.model id ≡ Some (stored number a bytes)) → NoKey id old.slots.table.slots →
-        ((m : model.Store) → Agrees old.slots.table.slots m all → HasLoaded m id number a bytes → Agrees slots.table.slots m all) → IsFound
+        ((m : Model) → Agrees old.slots.table.slots m all → HasLoaded m id number a bytes → Agrees slots.table.slots m all) → IsFound
     loads read s reads lt has key named filed none fills = go (is_some told_here) refl where
       own : HasCellKey s.model id number
       own = key_of_cell old.file.cells.states.items s.model id c s.directory lt has
@@ -109,7 +103,7 @@ module _ {D A C : Type 0} (disks : Disk.Ghosts D) (elements : Devices.Ghosts A) 
           let there : HasLoaded (replaced s.model id new) id number a bytes = (new, put_here s.model id new, record { has_number = own.3; has_attributes = refl; has_bytes = refl }) in (
             record {
               model = replaced s.model id new;
-              replayed = λ k. absurd (untold told_here start h e id s.model blind reads s.replayed (is_persistent (map.get s.model.keys id) own.0 own.1 own.2) (known read.same k));
+              replayed = λ k. absurd (untold told_here start h e id s.model blind reads s.replayed (is_persistent (map_get s.model.keys id) own.0 own.1 own.2) (known read.same k));
               sound = sound_after s.model id own.0 a bytes own.1 own.2 key named s.sound;
               settings = s.settings;
               labels_are = s.labels_are;

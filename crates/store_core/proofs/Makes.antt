@@ -1,11 +1,5 @@
 -- A ranked turn that creates a key.
-use Rattle.std.proofs.Common.{Bool, List, None, Option, Some, [], ap, arith, cond, false, is_some, length, min, not, refl, slice_index, subst, sym, true, ℕ, ◌++◌, ◌+◌, ◌-◌, ◌^◌, ◌∙◌, ◌∷◌, ◌≡◌, ◌≤◌}
-use Rattle.store_core.proofs.Common.{Agrees, AreHoldings, Attributes, Course, Destroy, Doubt, Entry, FaultMark, Holds, HoldsKeys, IsDirectory, IsEntry, IsSure, IsTold, Key, Leads, MayBeKept, OnHandle, OnStore, Opening, Pairs, Plain, Reply, Request, Rose, Service, StandsFor, StandsForKeys, Status, Store, Stored, count_persistent, counted, created, created_sound, doubt_after, doubt_by, durable_keys, failed_step, false≢true, is_destruction, is_persistent_key, is_volatile, kept, key_answered, key_changed, live_volatile, new_id, new_key, option_map_or, outcome_of, plain_step, refusal, replay, serve, stored}
-use Rattle.disk_face.specs.declared.Disk as Disk
-use Rattle.driver_dispatch.specs.declared.devices.Devices as Devices
-use Rattle.admission.specs.declared.rules.Admission as Admission
-use Rattle.std.specs.FinMap as map
-use Rattle.store_model.specs.Store as model
+use Rattle.store_core.proofs.Common.{[], AdmissionGhosts, Agrees, ap, AreHoldings, arith, Attributes, Bool, cond, count_persistent, counted, Course, created, created_sound, Destroy, DevicesGhosts, DiskGhosts, Doubt, doubt_after, doubt_by, durable_keys, Entry, failed_step, false, false≢true, FaultMark, Holds, HoldsKeys, is_destruction, is_persistent_key, is_some, is_volatile, IsDirectory, IsEntry, IsSure, IsTold, kept, Key, key_answered, key_changed, Leads, length, List, live_volatile, map_get, MayBeKept, min, Model, new_id, new_key, None, not, OnHandle, OnStore, Opening, Option, option_map_or, outcome_of, Pairs, Plain, plain_step, refl, refusal, replay, Reply, Request, Rose, serve, Service, slice_index, Some, StandsFor, StandsForKeys, Status, Store, Stored, stored, subst, sym, true, ℕ, ◌++◌, ◌+◌, ◌-◌, ◌^◌, ◌∙◌, ◌∷◌, ◌≡◌, ◌≤◌}
 use Rattle.store_core.proofs.Changing.{IsRankedOn, retold, turns}
 use Rattle.store_core.proofs.Added.{put_here}
 use Rattle.store_core.proofs.Freeing.{MovesFree}
@@ -55,13 +49,13 @@ module _ (e : Entry) (keeps : is_destruction e.call ≡ false) where
       ∙ ap (λ (x : Option Stored). option_map_or (λ (key : Stored). doubt_by mark false key s.doubt) x s.doubt) (ap kept changed ∙ is))
 
   module _ (caller : ℕ) (recorded : Attributes) (bytes : List ℕ) where
-    abbrev made_of_it : model.Store → model.Store
+    abbrev made_of_it : Model → Model
     made_of_it m = (created m caller recorded bytes).store
 
     -- the key that changes is the new one
-    pub changes_new : (service : Service) → IsMakingAt e caller recorded bytes service → key_changed service e.caller e.call ≡ map.get (made_of_it service.store).keys (new_id service.store caller recorded)
+    pub changes_new : (service : Service) → IsMakingAt e caller recorded bytes service → key_changed service e.caller e.call ≡ map_get (made_of_it service.store).keys (new_id service.store caller recorded)
     changes_new service is =
-        answered_key service e.caller e.call keeps ∙ (ap (λ (m : model.Store). key_answered m (plain_step service e.caller e.call).reply.output) is.leaves
+        answered_key service e.caller e.call keeps ∙ (ap (λ (m : Model). key_answered m (plain_step service e.caller e.call).reply.output) is.leaves
         ∙ ap (λ (r : Reply). key_answered (made_of_it service.store) r.output) is.answers)
 
   -- a refusal changes none
@@ -74,7 +68,7 @@ rose_since before past now le rose = least before past now le rose where
   least : (b p n : ℕ) → b ≤ p → min (p + 1) (2 ^ 64 - 1) ≤ n → min (b + 1) (2 ^ 64 - 1) ≤ n
   least b p n le at = omega (arith, le, at)
 
-module _ {D A C : Type 0} (disks : Disk.Ghosts D) (elements : Devices.Ghosts A) (admits : Admission.Ghosts C)
+module _ {D A C : Type 0} (disks : DiskGhosts D) (elements : DevicesGhosts A) (admits : AdmissionGhosts C)
     (only_now : (disk : D) (image : List ℕ) → disks.left_since disk (disks.moment disk) image → disks.may_leave disk image)
     (old new : Store D A C) (start : Service) (opening : Opening) (h : List Entry) (all less : List Pairs) (e : Entry) where
   abbrev disk : D
@@ -90,7 +84,7 @@ module _ {D A C : Type 0} (disks : Disk.Ghosts D) (elements : Devices.Ghosts A) 
   IsTurnTo mark = IsEntry disks elements admits new mark e
 
   -- what a turn leaves of a store, whatever key it makes
-  pub record IsSameBut (m' : model.Store) : Type 0 where
+  pub record IsSameBut (m' : Model) : Type 0 where
     pub goes_on : IsRankedOn old new
     pub places : elements.locations new.devices ≡ elements.locations old.devices
     pub made : m'.made ≡ new.made
@@ -112,7 +106,7 @@ module _ {D A C : Type 0} (disks : Disk.Ghosts D) (elements : Devices.Ghosts A) 
   makes caller recorded bytes s first last may keeps making holdings same leads settles frees is =
       (turns disks elements admits only_now (IsMakingAt e caller recorded bytes) (IsTold (disks.contents disk) start (h ++ e ∷ [])) old new start opening h all less e Plain (created s.model caller recorded bytes).store s
       (retold (disks.contents disk) (disks.contents new.file.cells.disk) start (h ++ e ∷ []) same.tells) (λ k. making (retold (disks.contents disk) (disks.contents new.file.cells.disk) start (h ++ e ∷ []) same.tells k)) (record {
-        becomes = λ service known at. ap (λ (x : model.Store). (created x caller recorded bytes).store) at ∙ sym (plain_counts e keeps service is.marked ∙ known.leaves);
+        becomes = λ service known at. ap (λ (x : Model). (created x caller recorded bytes).store) at ∙ sym (plain_counts e keeps service is.marked ∙ known.leaves);
         sound = created_sound s.model caller recorded bytes first last s.sound may;
         counts = refl;
         goes_on = same.goes_on;
@@ -139,7 +133,7 @@ module _ {D A C : Type 0} (disks : Disk.Ghosts D) (elements : Devices.Ghosts A) 
 
       changed : (service : Service) → IsMakingAt e caller recorded bytes service → s.model ≡ service.store → key_changed service e.caller e.call ≡ Some own
       changed service known at =
-          changes_new e keeps caller recorded bytes service known ∙ (ap (λ (x : model.Store). map.get (created x caller recorded bytes).store.keys (new_id x caller recorded)) (sym at) ∙ put_here s.model caller recorded bytes first last s.sound may)
+          changes_new e keeps caller recorded bytes service known ∙ (ap (λ (x : Model). map_get (created x caller recorded bytes).store.keys (new_id x caller recorded)) (sym at) ∙ put_here s.model caller recorded bytes first last s.sound may)
 
       doubt_is : (c : Course) → IsMakingAt e caller recorded bytes c.service → s.model ≡ c.service.store → doubt_after e c ≡ cond (is_volatile recorded) c.doubt []
       doubt_is c known at = doubted e keeps c Plain (Some own) (kept (Some own)) is.marked (changed c.service known at) refl

@@ -1,14 +1,7 @@
 -- A ranked turn that creates a key of the file.
-use Rattle.std.proofs.Common.{Bool, List, None, Option, Some, [], ap, arith, cond, false, is_some, length, not, refl, set, subst, sym, true, ℕ, ◌++◌, ◌+◌, ◌<◌, ◌^◌, ◌∙◌, ◌∷◌, ◌≡◌, ◌≤◌}
-use Rattle.store_core.proofs.Common.{Agrees, AreHoldings, Attributes, Course, Doubt, Entry, FaultMark, HasNoKey, IsEntry, IsFirstWithoutKey, IsFull, IsKeyOf, IsMaking, IsMaterial, IsPut, IsAboutToCreate, IsSince, IsSure, IsThereOrNew, Key, KeyFile, KeySlots, Keys, Leads, MayBeKept, NoKey, Open, Opening, Pairs, Plain, Puts, Rose, Service, SlotHasKey, StandsFor, StandsForKeys, Storage, Store, Stored, Told, Writing, bytes_of, counted, created, doubt_after, doubt_by, doubt_unmade, durable_keys, false≢true, full_slot, has_secure_element, is_opaque, is_persistent_key, is_volatile, kept, key_changed, last_counts, new_id, new_key, outcome_of, recorded, replay, serve, settled_states, stored}
-use Rattle.disk_face.specs.declared.Disk as Disk
-use Rattle.driver_dispatch.specs.declared.devices.Devices as Devices
-use Rattle.admission.specs.declared.rules.Admission as Admission
-use Rattle.std.specs.FinMap as map
+use Rattle.store_core.proofs.Common.{[], AdmissionGhosts, Agrees, ap, AreHoldings, arith, Attributes, Bool, bytes_of, CellState, cond, counted, Course, created, DevicesGhosts, DiskGhosts, Doubt, doubt_after, doubt_by, doubt_unmade, durable_keys, Entry, false, false≢true, FaultMark, full_slot, has_secure_element, HasNoKey, is_opaque, is_persistent_key, is_some, is_volatile, IsAboutToCreate, IsEntry, IsFirstWithoutKey, IsFull, IsKeyOf, IsMaking, IsMaterial, IsPut, IsSince, IsSure, IsThereOrNew, kept, Key, key_changed, KeyFile, Keys, KeySlots, last_counts, Leads, length, List, map_get, MayBeKept, Model, new_id, new_key, NoKey, None, not, Open, Opening, Option, outcome_of, Pairs, Plain, Puts, recorded, refl, replay, Rose, serve, Service, set, settled_states, SlotHasKey, Some, StandsFor, StandsForKeys, Storage, Store, Stored, stored, subst, sym, Told, true, Writing, ℕ, ◌++◌, ◌+◌, ◌<◌, ◌^◌, ◌∙◌, ◌∷◌, ◌≡◌, ◌≤◌}
 use Rattle.key_cells.specs.Contents as contents
-use Rattle.key_cells.specs.declared.state.CellState as cell
 use Rattle.persistent_keys.specs.declared.file.MakeFault.TheVariants.{Disk}
-use Rattle.store_model.specs.Store as model
 use Rattle.store_core.proofs.Holding.{same_device}
 use Rattle.store_core.proofs.Sure.{set_sure}
 use Rattle.store_core.proofs.Removing.{directory_settled}
@@ -18,13 +11,13 @@ use Rattle.store_core.proofs.Changing.{unmade}
 use Rattle.store_core.proofs.Freeing.{MovesFree}
 use Rattle.store_core.proofs.Makes.{IsMakingAt, makes, marked_counts, doubted, changes_new, rose_since}
 
-module _ {D A C : Type 0} {disks : Disk.Ghosts D} {elements : Devices.Ghosts A} {admits : Admission.Ghosts C}
+module _ {D A C : Type 0} {disks : DiskGhosts D} {elements : DevicesGhosts A} {admits : AdmissionGhosts C}
     {old : Store D A C} {caller : ℕ} {a : Attributes} {source : Option ℕ} {start : Service} {opening : Opening} {h : List Entry} {all : List Pairs} {e : Entry}
     (r : IsAboutToCreate disks elements admits old caller a source start opening h all e) where
-  abbrev m : model.Store
+  abbrev m : Model
   m = r.holds.model
 
-  abbrev cells : List cell.CellState
+  abbrev cells : List CellState
   cells = old.file.cells.states.items
 
   abbrev disk : D
@@ -47,7 +40,7 @@ module _ {D A C : Type 0} {disks : Disk.Ghosts D} {elements : Devices.Ghosts A} 
     pub ready_key : a.key_type.0 < 2 ^ 16 → a.policy.usage.0 < 2 ^ 32 → a.policy.alg < 2 ^ 32 → IsKeyOf a (bytes_of old.buffer)
     ready_key type_fits usage_fits alg_fits = subst (IsKeyOf a) (sym (in_buffer local)) (key_of_checked a r.bytes (has_secure_element m) ready_may.checks persistent type_fits usage_fits alg_fits)
 
-    none_there : map.get m.keys a.id.0 ≡ None
+    none_there : map_get m.keys a.id.0 ≡ None
     none_there = none_stated m caller a r.bytes first last r.holds.sound ready_may persistent
 
     pub ready_cells : HasNoKey cells a.id.0
@@ -73,7 +66,7 @@ module _ {D A C : Type 0} {disks : Disk.Ghosts D} {elements : Devices.Ghosts A} 
       bytes_are : bytes_of old.buffer ≡ r.bytes
       bytes_are = in_buffer local
 
-      abbrev after : model.Store
+      abbrev after : Model
       after = (created m caller a r.bytes).store
 
       abbrev own : Key
@@ -169,7 +162,7 @@ module _ {D A C : Type 0} {disks : Disk.Ghosts D} {elements : Devices.Ghosts A} 
 
           changed : (service : Service) → IsMakingAt e caller a r.bytes service → m ≡ service.store → key_changed service e.caller e.call ≡ Some own
           changed service known at =
-              changes_new e making.keeps caller a r.bytes service known ∙ (ap (λ (x : model.Store). map.get (created x caller a r.bytes).store.keys (new_id x caller a)) (sym at) ∙ put_here m caller a r.bytes first last r.holds.sound ready_may)
+              changes_new e making.keeps caller a r.bytes service known ∙ (ap (λ (x : Model). map_get (created x caller a r.bytes).store.keys (new_id x caller a)) (sym at) ∙ put_here m caller a r.bytes first last r.holds.sound ready_may)
 
           is_persistent_changed : (service : Service) → IsMakingAt e caller a r.bytes service → m ≡ service.store → is_persistent_key (key_changed service e.caller e.call) ≡ true
           is_persistent_changed service known at = ap is_persistent_key (changed service known at) ∙ ap not persistent

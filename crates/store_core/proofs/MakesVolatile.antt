@@ -1,12 +1,6 @@
 -- A ranked turn that creates a volatile key, in memory or in the device.
-use Rattle.std.proofs.Common.{IfSome, List, None, Option, Some, [], ap, arith, cond, false, inr, length, not, refl, slice_index, slice_set, subst, sym, true, ℕ, ◌++◌, ◌+◌, ◌<◌, ◌^◌, ◌||◌, ◌∙◌, ◌∷◌, ◌≡◌, ◌≤◌, ◌⊎◌}
-use Rattle.store_core.proofs.Common.{Agrees, AreHoldings, asks_device, Attributes, Buffer, bytes_of, Course, created, Doubt, doubt_after, durable_keys, Entry, FaultMark, first_volatile, full_slot, Hardware, has_element, has_secure_element, HeldKey, HeldKeys, HoldsHandle, HoldsKeys, identified, is_destruction, is_key_type, is_opaque, is_opaque_key, is_persistent_key, is_volatile, IsAboutToCreate, IsEntry, IsMaking, IsMaterial, IsSince, IsSomeKey, IsThereOrNew, Key, key_changed, KeySlots, Lacks, last_counts, Leads, MayBeKept, new_id, new_key, NoKey, Opening, option_map, Pairs, permits_size, Plain, Puts, replay, Rose, serve, Service, SlotHasKey, StandsFor, stays, Store, stored, Told, with_copy, with_held_key, with_key_or_same, ⊤}
-use Rattle.disk_face.specs.declared.Disk as Disk
-use Rattle.driver_dispatch.specs.declared.devices.Devices as Devices
-use Rattle.admission.specs.declared.rules.Admission as Admission
-use Rattle.std.specs.FinMap as map
+use Rattle.store_core.proofs.Common.{[], AdmissionGhosts, Agrees, ap, AreHoldings, arith, asks_device, Attributes, Buffer, bytes_of, cond, Course, created, DevicesGhosts, DiskGhosts, Doubt, doubt_after, durable_keys, Entry, false, FaultMark, first_volatile, full_slot, Hardware, has_element, has_secure_element, HeldKey, HeldKeys, HoldsHandle, HoldsKeys, identified, IfSome, inr, is_destruction, is_key_type, is_opaque, is_opaque_key, is_persistent_key, is_volatile, IsAboutToCreate, IsEntry, IsMaking, IsMaterial, IsSince, IsSomeKey, IsThereOrNew, Key, key_changed, KeySlots, Lacks, last_counts, Leads, length, List, map_get, MayBeKept, Model, new_id, new_key, NoKey, None, not, Opening, Option, option_map, Pairs, permits_size, Plain, Puts, refl, replay, Rose, serve, Service, slice_index, slice_set, SlotHasKey, Some, StandsFor, stays, Store, stored, subst, sym, Told, true, with_copy, with_held_key, with_key_or_same, ℕ, ⊤, ◌++◌, ◌+◌, ◌<◌, ◌^◌, ◌||◌, ◌∙◌, ◌∷◌, ◌≡◌, ◌≤◌, ◌⊎◌}
 use Rattle.driver_dispatch.specs.Held as held_keys
-use Rattle.store_model.specs.Store as model
 use Rattle.store_core.proofs.Added.{none_here, puts, is_new, put_here, volatile_id, few_live, few_made, made_here, live_here, volatile_kept, as_many_kept, directory_same, device_same, device_gains, device_failed, local_fills, opaque_fills}
 use Rattle.store_core.proofs.Checked.{known_type, known_size, element_is, in_no_slot}
 use Rattle.store_core.proofs.Destroyed.{holds_some}
@@ -15,10 +9,10 @@ use Rattle.store_core.proofs.Freeing.{MovesFree, unmoved}
 use Rattle.store_core.proofs.Makes.{IsMakingAt, makes, marked_counts, doubted, changes_new, rose_since}
 use Rattle.store_core.proofs.MakesKept.{ready_may, in_buffer}
 
-module _ {D A C : Type 0} {disks : Disk.Ghosts D} {elements : Devices.Ghosts A} {admits : Admission.Ghosts C}
+module _ {D A C : Type 0} {disks : DiskGhosts D} {elements : DevicesGhosts A} {admits : AdmissionGhosts C}
     {old : Store D A C} {caller : ℕ} {a : Attributes} {source : Option ℕ} {start : Service} {opening : Opening} {h : List Entry} {all : List Pairs} {e : Entry}
     (r : IsAboutToCreate disks elements admits old caller a source start opening h all e) (first : 1 ≤ caller) (last : caller ≤ 16) (volatile : is_volatile a ≡ true) where
-  abbrev m : model.Store
+  abbrev m : Model
   m = r.holds.model
 
   abbrev disk : D
@@ -33,7 +27,7 @@ module _ {D A C : Type 0} {disks : Disk.Ghosts D} {elements : Devices.Ghosts A} 
   number_is : number ≡ m.found + m.calls
   number_is = let found = r.holds.found in let calls = r.holds.calls in omega arith
 
-  abbrev after : model.Store
+  abbrev after : Model
   after = (created m caller a r.bytes).store
 
   abbrev own : Key
@@ -53,7 +47,7 @@ module _ {D A C : Type 0} {disks : Disk.Ghosts D} {elements : Devices.Ghosts A} 
   ready_made = subst (λ (l : List ℕ). slice_index l caller < 2 ^ 20) r.holds.made (few_made m caller a r.bytes first last r.holds.sound may volatile)
 
   pub ready_slots : length old.slots.table.slots ≡ 384 → NoKey next old.slots.table.slots
-  ready_slots sized = in_no_slot old.slots.table.slots m all next sized r.holds.slots (ap (map.get m.keys) (sym next_is) ∙ none_here m caller a r.bytes first last r.holds.sound may)
+  ready_slots sized = in_no_slot old.slots.table.slots m all next sized r.holds.slots (ap (map_get m.keys) (sym next_is) ∙ none_here m caller a r.bytes first last r.holds.sound may)
 
   pub next_puts : Puts m after next (Some own)
   next_puts = subst (λ n. Puts m after n (Some own)) next_is (puts m caller a r.bytes first last r.holds.sound may)
@@ -138,7 +132,7 @@ module _ {D A C : Type 0} {disks : Disk.Ghosts D} {elements : Devices.Ghosts A} 
     is_making : Told disks elements admits old start (h ++ e ∷ []) → IsMakingAt e caller a r.bytes (replay start h)
     is_making k = record { leaves = making.leaves k; answers = making.answers k }
 
-    abbrev Leading : Doubt → model.Store → Doubt → Type 0
+    abbrev Leading : Doubt → Model → Doubt → Type 0
     Leading doubt m' doubt' = Leads disks disk disk old.file.cells.states.items old.file.cells.states.items (durable_keys m) doubt (durable_keys m') doubt'
 
     abbrev pub with_volatile : Store D A C
@@ -197,7 +191,7 @@ module _ {D A C : Type 0} {disks : Disk.Ghosts D} {elements : Devices.Ghosts A} 
       where
         changed : (service : Service) → IsMakingAt e caller a r.bytes service → m ≡ service.store → key_changed service e.caller e.call ≡ Some own
         changed service known at =
-            changes_new e making.keeps caller a r.bytes service known ∙ (ap (λ (x : model.Store). map.get (created x caller a r.bytes).store.keys (new_id x caller a)) (sym at) ∙ put_here m caller a r.bytes first last r.holds.sound may)
+            changes_new e making.keeps caller a r.bytes service known ∙ (ap (λ (x : Model). map_get (created x caller a r.bytes).store.keys (new_id x caller a)) (sym at) ∙ put_here m caller a r.bytes first last r.holds.sound may)
 
         doubt_is : (c : Course) → IsMakingAt e caller a r.bytes c.service → m ≡ c.service.store → doubt_after e c ≡ c.doubt
         doubt_is c known at = doubted e making.keeps c Hardware (Some own) None is.marked (changed c.service known at) (ap (λ b. cond b None (Some (stored own.number own.attributes own.bytes))) volatile)

@@ -1,6 +1,5 @@
 -- What a call answers where there is no key, and only there.
-use Rattle.std.proofs.Common.{Bool, Err, IsErrOf, Some, cond, false, refl, subst, take, true, ℕ, ◌≡◌}
-use Rattle.store_core.proofs.Common.{Corrupt, Disk, InvalidArgument, InvalidHandle, Key, KeyUse, Missing, NotPermitted, NotSupported, Status, Unread, derivation_key_rows, export_rows, first_row, refused_by, status_of, use_refusal, use_rows}
+use Rattle.store_core.proofs.Common.{Bool, cond, Corrupt, derivation_key_rows, Disk, Err, export_rows, false, first_row, InvalidArgument, InvalidHandle, IsErrOf, Key, KeyUse, Missing, NotPermitted, NotSupported, refl, refused_by, Some, Status, status_of, subst, take, true, Unread, use_refusal, use_rows, ℕ, ◌≡◌}
 use Rattle.alg_encoding.specs.Encoding.{is_concrete}
 use Rattle.key_policy.specs.declared.key_use.KeyUse.TheVariants.{Export, Algorithm, Derivation}
 

@@ -1,22 +1,20 @@
 -- The open cells of a directory by their numbers, and the keys in them.
-use Rattle.std.proofs.Common.{Bool, IfSome, List, Option, Some, [], ap, arith, cond, count_by, eq-eqb, false, length, refl, slice_get, subst, suc, sym, take, true, zero, ℕ, ⊎_elim, ◌++◌, ◌+◌, ◌<◌, ◌∙◌, ◌∷◌, ◌≡◌, ◌≤◌}
-use Rattle.store_core.proofs.Common.{AreOpened, body, cases_eq, cell_state, count_by_more_no, count_by_more_yes, creation_of_state, false≢true, Free, has_id, HasOneEach, HoldsKey, is_open, IsKeyOf, IsNumbered, Open, OpenedKey, slice_get_within, sum_by-cons}
+use Rattle.store_core.proofs.Common.{[], ap, AreOpened, arith, body, Bool, cases_eq, cell_state, CellState, cond, count_by, count_by_more_no, count_by_more_yes, creation_of_state, eq-eqb, false, false≢true, Free, has_id, HasOneEach, HoldsKey, IfSome, is_open, IsKeyOf, IsNumbered, length, List, Open, OpenedKey, Option, refl, slice_get, slice_get_within, Some, subst, suc, sum_by-cons, sym, take, true, zero, ℕ, ⊎_elim, ◌++◌, ◌+◌, ◌<◌, ◌∙◌, ◌∷◌, ◌≡◌, ◌≤◌}
 use Rattle.std.proofs.lemmas.List.{take_all, length-append}
-use Rattle.key_cells.specs.declared.state.CellState as cell
 use Rattle.store_core.proofs.FoundMap.{HasEachOnce, AreKept, id_of}
 
 -- THE CELL OF A NUMBER
 
-pub record IsCellOf (slots : List cell.CellState) (n : ℕ) : Type 0 where
+pub record IsCellOf (slots : List CellState) (n : ℕ) : Type 0 where
   pub at : ℕ
   pub within : at < length slots
   pub opened : is_open (cell_state slots at) ≡ true
   pub counted : count_by is_open (take at slots) ≡ n
 
-counts_cons : (s : cell.CellState) (ss : List cell.CellState) → count_by is_open (s ∷ ss) ≡ cond (is_open s) 1 0 + count_by is_open ss
+counts_cons : (s : CellState) (ss : List CellState) → count_by is_open (s ∷ ss) ≡ cond (is_open s) 1 0 + count_by is_open ss
 counts_cons s ss = sum_by-cons (λ x. cond (is_open x) 1 0) s ss
 
-pub cell_of : (slots : List cell.CellState) (n : ℕ) → n < count_by is_open slots → IsCellOf slots n
+pub cell_of : (slots : List CellState) (n : ℕ) → n < count_by is_open slots → IsCellOf slots n
 cell_of [] n lt = absurd (omega arith)
 cell_of (s ∷ ss) n lt = of (cell_of ss) (is_open s) refl n (let c = counts_cons s ss in omega arith)
   where
@@ -29,33 +27,33 @@ cell_of (s ∷ ss) n lt = of (cell_of ss) (is_open s) refl n (let c = counts_con
     of rest false is n lt = subst (λ (x : ℕ). IsCellOf (s ∷ ss) x) (omega arith) (later false is n (rest n (omega arith)))
 
 -- an open slot has an identifier and a number
-pub record IsOpenSlot (slot : cell.CellState) : Type 0 where
+pub record IsOpenSlot (slot : CellState) : Type 0 where
   pub id : ℕ
   pub number : ℕ
   pub is : slot ≡ Open id number
 
-pub open_slot : (slot : cell.CellState) → is_open slot ≡ true → IsOpenSlot slot
+pub open_slot : (slot : CellState) → is_open slot ≡ true → IsOpenSlot slot
 open_slot (Open id number) o = record { id = id; number = number; is = refl }
 open_slot slot o = absurd (false≢true o)
 
-pub has_own : (slot : cell.CellState) (id number : ℕ) → slot ≡ Open id number → has_id id slot ≡ true
+pub has_own : (slot : CellState) (id number : ℕ) → slot ≡ Open id number → has_id id slot ≡ true
 has_own slot id number is = ap (has_id id) is ∙ eq-eqb id id refl
 
 -- a number is that of an open cell
-pub number_counts : (slots : List cell.CellState) → IsNumbered 512 slots → (c id number : ℕ) → c < 512 → cell_state slots c ≡ Open id number → number ≡ count_by is_open (take c slots)
+pub number_counts : (slots : List CellState) → IsNumbered 512 slots → (c id number : ℕ) → c < 512 → cell_state slots c ≡ Open id number → number ≡ count_by is_open (take c slots)
 number_counts slots numbered c id number lt is = sym (ap creation_of_state is) ∙ numbered c lt (ap is_open is)
 
 -- THE KEYS IN THEM
 
 -- a found key has a cell, under its number
-pub record IsPlaced (told : Option (List ℕ)) (slots : List cell.CellState) (n : ℕ) (key : OpenedKey) : Type 0 where
+pub record IsPlaced (told : Option (List ℕ)) (slots : List CellState) (n : ℕ) (key : OpenedKey) : Type 0 where
   pub at : ℕ
   pub within : at < 512
   pub slot : cell_state slots at ≡ Open (id_of key) n
   pub kept : IsKeyOf key.attributes key.bytes
   pub holds : IfSome told (λ image. HoldsKey key.attributes key.bytes (body at image))
 
-module _ (told : Option (List ℕ)) (slots : List cell.CellState) (found : List OpenedKey) (sized : length slots ≡ 512) (numbered : IsNumbered 512 slots) (are : AreOpened told slots found) where
+module _ (told : Option (List ℕ)) (slots : List CellState) (found : List OpenedKey) (sized : length slots ≡ 512) (numbered : IsNumbered 512 slots) (are : AreOpened told slots found) where
   pub placed : (n : ℕ) (key : OpenedKey) → slice_get found n ≡ Some key → IsPlaced told slots n key
   placed n key e =
       let within : n < length found = slice_get_within found n key e in
@@ -94,7 +92,7 @@ pub record HasCellKey (told : Option (List ℕ)) (c id : ℕ) : Type 0 where
   pub is : IsCellKey told c id key
 
 -- the keys of the first so many cells
-record FoundBelow (told : Option (List ℕ)) (slots : List cell.CellState) (count : ℕ) : Type 0 where
+record FoundBelow (told : Option (List ℕ)) (slots : List CellState) (count : ℕ) : Type 0 where
   found : List OpenedKey
   counts : length found ≡ count_by is_open (take count slots)
   each : (c id number : ℕ) → c < count → cell_state slots c ≡ Open id number → (key : OpenedKey) × (slice_get found number ≡ Some key) × IsCellKey told c id key
@@ -108,7 +106,7 @@ at_end : (xs : List OpenedKey) (key : OpenedKey) → slice_get (xs ++ key ∷ []
 at_end [] key = refl
 at_end (x ∷ xs) key = at_end xs key
 
-module _ (told : Option (List ℕ)) (slots : List cell.CellState) (sized : length slots ≡ 512) (numbered : IsNumbered 512 slots) (there : (c id number : ℕ) → c < 512 → cell_state slots c ≡ Open id number → HasCellKey told c id) where
+module _ (told : Option (List ℕ)) (slots : List CellState) (sized : length slots ≡ 512) (numbered : IsNumbered 512 slots) (there : (c id number : ℕ) → c < 512 → cell_state slots c ≡ Open id number → HasCellKey told c id) where
   next : (count : ℕ) → count < 512 → FoundBelow told slots count → (b : Bool) → is_open (cell_state slots count) ≡ b → FoundBelow told slots (count + 1)
   next count lt below true is =
       let o = open_slot (cell_state slots count) is in

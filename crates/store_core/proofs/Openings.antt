@@ -1,8 +1,5 @@
 -- What an opening finds, as keys of the one-thread store.
-use Rattle.std.proofs.Common.{IfSome, List, None, Option, Some, [], ap, arith, cond, drop, is_some, length, refl, slice_get, subst, suc, sym, take, true, ℕ, ◌+◌, ◌<◌, ◌∙◌, ◌∷◌, ◌≡◌, ◌≤◌}
-use Rattle.store_core.proofs.Common.{AreFound, AreOpened, Attributes, body, cell_state, content_at, content_of, content_there, creation_of_state, durable_keys, eqb-true, false≢true, Finds, found_in, Free, gate, get_or-replicate, has_id, HasKey, HoldsId, HoldsKey, IsFoundIn, IsKeyOf, IsNamed, IsNumbered, IsPersistent, kept, Key, length-drop, length-take, Open, opened_gate, OpenedKey, place, Present, Settings, Shows, Shut, Sound, start_of, Stored, stored, Unsure}
-use Rattle.std.specs.FinMap as map
-use Rattle.key_cells.specs.declared.state.CellState as cell
+use Rattle.store_core.proofs.Common.{[], ap, AreFound, AreOpened, arith, Attributes, body, cell_state, CellState, cond, content_at, content_of, content_there, creation_of_state, drop, durable_keys, eqb-true, false≢true, Finds, found_in, Free, gate, get_or-replicate, has_id, HasKey, HoldsId, HoldsKey, IfSome, is_some, IsFoundIn, IsKeyOf, IsNamed, IsNumbered, IsPersistent, kept, Key, length, length-drop, length-take, List, map_get, None, Open, opened_gate, OpenedKey, Option, place, Present, refl, Settings, Shows, Shut, slice_get, Some, Sound, start_of, Stored, stored, subst, suc, sym, take, true, Unsure, ℕ, ◌+◌, ◌<◌, ◌∙◌, ◌∷◌, ◌≡◌, ◌≤◌}
 use Rattle.key_cells.proofs.Bodies.{of_one_key}
 use Rattle.store_core.proofs.FoundMap.{HasEachOnce, id_of, found_at, at_found}
 use Rattle.store_core.proofs.Kept.{lasting}
@@ -10,12 +7,12 @@ use Rattle.store_core.proofs.OpenCells.{IsPlaced, HasCellKey, placed, has_own}
 
 -- THE CELLS OF THE IMAGE THAT WAS OPENED, AND OF WHAT IS READ AFTERWARDS
 
-pub record AreTold (slots : List cell.CellState) (image now : List ℕ) : Type 0 where
+pub record AreTold (slots : List CellState) (image now : List ℕ) : Type 0 where
   pub found : IsFoundIn image slots
   pub sound : Sound slots (found_in image) now
 
 -- what a disk told before an opening and tells after it
-pub told_twice : (slots : List cell.CellState) (L : List ℕ → Type 0) (before now : Option (List ℕ)) → is_some now ≡ is_some before → IfSome before (λ image. IsFoundIn image slots) →
+pub told_twice : (slots : List CellState) (L : List ℕ → Type 0) (before now : Option (List ℕ)) → is_some now ≡ is_some before → IfSome before (λ image. IsFoundIn image slots) →
     IfSome before (λ image. (read : List ℕ) → L read → Sound slots (found_in image) read) → IfSome now L →
     (P : Option (List ℕ) → Option (List ℕ) → Type 0) → P None None → ((image read : List ℕ) → AreTold slots image read → P (Some image) (Some read)) → P before now
 told_twice slots L None None tells found sound left P none some = none
@@ -28,16 +25,16 @@ pub record IsCellIn (image now : List ℕ) (c id : ℕ) : Type 0 where
   pub holds : HoldsId id (body c image)
   pub same : body c now ≡ body c image
 
-pub cell_in : (slots : List cell.CellState) (image now : List ℕ) → AreTold slots image now → (c id number : ℕ) → c < 512 → cell_state slots c ≡ Open id number → IsCellIn image now c id
+pub cell_in : (slots : List CellState) (image now : List ℕ) → AreTold slots image now → (c id number : ℕ) → c < 512 → cell_state slots c ≡ Open id number → IsCellIn image now c id
 cell_in slots [] now are c id number lt is =
-    let free : cell_state slots c ≡ Free = ap (λ (l : List cell.CellState). cell_state l c) are.found ∙ get_or-replicate 512 c Free Free lt in
+    let free : cell_state slots c ≡ Free = ap (λ (l : List CellState). cell_state l c) are.found ∙ get_or-replicate 512 c Free Free lt in
     absurd (cc)
 cell_in slots (byte ∷ rest) now are c id number lt is =
     let image : List ℕ = byte ∷ rest in
-    let f : Finds (Open id number) (gate c image) (body c image) = subst (λ (s : cell.CellState). Finds s (gate c image) (body c image)) is (are.found.each c lt) in
+    let f : Finds (Open id number) (gate c image) (body c image) = subst (λ (s : CellState). Finds s (gate c image) (body c image)) is (are.found.each c lt) in
     let there : content_at (found_in image) c ≡ Present (body c image) = content_there c image lt ∙ ap (λ (g : List ℕ). content_of g (body c image)) f.0 in
     let shown : Shows (Open id number) (Present (body c image)) (gate c now) (body c now) =
-    subst (λ x. Shows (Open id number) x (gate c now) (body c now)) there (subst (λ (s : cell.CellState). Shows s (content_at (found_in image) c) (gate c now) (body c now)) is (are.sound.each c lt)) in
+    subst (λ x. Shows (Open id number) x (gate c now) (body c now)) there (subst (λ (s : CellState). Shows s (content_at (found_in image) c) (gate c now) (body c now)) is (are.sound.each c lt)) in
     record { opened = f.0; holds = f.1; same = shown.1 }
 
 -- some key of an identifier, for a disk that doesn't tell
@@ -58,7 +55,7 @@ any_of_id c id named = record {
   };
 }
 
-pub cell_key : (slots : List cell.CellState) (before now : Option (List ℕ)) (L : List ℕ → Type 0) → IsNamed 512 slots → is_some now ≡ is_some before → IfSome before (λ image. IsFoundIn image slots) →
+pub cell_key : (slots : List CellState) (before now : Option (List ℕ)) (L : List ℕ → Type 0) → IsNamed 512 slots → is_some now ≡ is_some before → IfSome before (λ image. IsFoundIn image slots) →
     IfSome before (λ image. (read : List ℕ) → L read → Sound slots (found_in image) read) → IfSome now L →
     (c id number : ℕ) → c < 512 → cell_state slots c ≡ Open id number → HasCellKey now c id
 cell_key slots before now L named tells found sound left c id number lt is =
@@ -85,16 +82,16 @@ nothing_there c is =
     omega arith
 
 -- an open cell of the image is one of the directory
-pub record IsListed (slots : List cell.CellState) (c : ℕ) : Type 0 where
+pub record IsListed (slots : List CellState) (c : ℕ) : Type 0 where
   pub id : ℕ
   pub number : ℕ
   pub is : cell_state slots c ≡ Open id number
 
-listed : (slots : List cell.CellState) (image now : List ℕ) → AreTold slots image now → (c : ℕ) → c < 512 → gate c image ≡ opened_gate → IsListed slots c
+listed : (slots : List CellState) (image now : List ℕ) → AreTold slots image now → (c : ℕ) → c < 512 → gate c image ≡ opened_gate → IsListed slots c
 listed slots [] now are c lt opened = absurd (nothing_there c opened)
 listed slots (byte ∷ rest) now are c lt opened = of (cell_state slots c) refl (are.found.each c lt)
   where
-    of : (s : cell.CellState) → cell_state slots c ≡ s → Finds s (gate c (byte ∷ rest)) (body c (byte ∷ rest)) → IsListed slots c
+    of : (s : CellState) → cell_state slots c ≡ s → Finds s (gate c (byte ∷ rest)) (body c (byte ∷ rest)) → IsListed slots c
     of Free is f = absurd (f opened)
     of (Open id number) is f = record { id = id; number = number; is = is }
     of Shut is f = absurd f
@@ -106,7 +103,7 @@ opened_key a bytes = record { attributes = a; bytes = bytes }
 same_key : (a b : Attributes) (bytes other : List ℕ) → (a ≡ b) × (bytes ≡ other) → opened_key a bytes ≡ opened_key b other
 same_key a b bytes other same = ap (λ (x : Attributes). opened_key x bytes) same.0 ∙ ap (opened_key b) same.1
 
-module _ (slots : List cell.CellState) (image now : List ℕ) (are : AreTold slots image now) (sized : length slots ≡ 512) (numbered_by : IsNumbered 512 slots) (found : List OpenedKey) (keys : AreOpened (Some now) slots found) where
+module _ (slots : List CellState) (image now : List ℕ) (are : AreTold slots image now) (sized : length slots ≡ 512) (numbered_by : IsNumbered 512 slots) (found : List OpenedKey) (keys : AreOpened (Some now) slots found) where
   pub key_found : (a : Attributes) (bytes : List ℕ) → HasKey a bytes image → (number : ℕ) × (slice_get found number ≡ Some (opened_key a bytes))
   key_found a bytes has =
       let c = has.0 in
@@ -136,9 +133,9 @@ module _ (slots : List cell.CellState) (image now : List ℕ) (are : AreTold slo
     IsInCell id key = (c : ℕ) × (c < 512) × (has_id id (cell_state slots c) ≡ true) × HoldsKey key.attributes key.bytes (body c image) × (key.creation ≡ creation_of_state (cell_state slots c))
 
     in_cell : (id : ℕ) (key : Stored) → durable_keys (start_of settings found) id ≡ Some key → IsInCell id key
-    in_cell id key e = of (map.get (start_of settings found).keys id) refl e
+    in_cell id key e = of (map_get (start_of settings found).keys id) refl e
       where
-        of : (o : Option Key) → map.get (start_of settings found).keys id ≡ o → kept o ≡ Some key → IsInCell id key
+        of : (o : Option Key) → map_get (start_of settings found).keys id ≡ o → kept o ≡ Some key → IsInCell id key
         of None at e = absurd (cc)
         of (Some k) at e =
             let f = found_at 0 found id k at in
@@ -154,7 +151,7 @@ module _ (slots : List cell.CellState) (image now : List ℕ) (are : AreTold slo
       all = λ id c lt has. of id c lt (cell_state slots c) refl has;
     }
       where
-        of : (id c : ℕ) → c < 512 → (s : cell.CellState) → cell_state slots c ≡ s → has_id id s ≡ true → (key : Stored) × (durable_keys (start_of settings found) id ≡ Some key)
+        of : (id c : ℕ) → c < 512 → (s : CellState) → cell_state slots c ≡ s → has_id id s ≡ true → (key : Stored) × (durable_keys (start_of settings found) id ≡ Some key)
         of id c lt (Open own number) is has =
             let k = keys.each c own number lt is in
             (stored number k.0.attributes k.0.bytes, ap (durable_keys (start_of settings found)) (sym (k.2 ∙ eqb-true own id has)) ∙ durable number k.0 k.1 k.3)
@@ -169,7 +166,7 @@ same_places (x ∷ xs) [] same each = absurd (omega arith)
 same_places (x ∷ xs) (y ∷ ys) same each =
     ap (λ (k : OpenedKey). k ∷ xs) (each 0 x y refl refl) ∙ ap (λ (l : List OpenedKey). y ∷ l) (same_places xs ys (omega arith) (λ i k l e f. each (suc i) k l e f))
 
-pub one_start : (image : List ℕ) (slots : List cell.CellState) (found other : List OpenedKey) → length slots ≡ 512 → IsNumbered 512 slots → AreOpened (Some image) slots found → AreOpened (Some image) slots other → found ≡ other
+pub one_start : (image : List ℕ) (slots : List CellState) (found other : List OpenedKey) → length slots ≡ 512 → IsNumbered 512 slots → AreOpened (Some image) slots found → AreOpened (Some image) slots other → found ≡ other
 one_start image slots found other sized numbered_by are are' =
     same_places found other (are.count ∙ sym are'.count) (λ i x y e f.
     let p = placed (Some image) slots found sized numbered_by are i x e in

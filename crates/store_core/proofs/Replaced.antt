@@ -1,9 +1,5 @@
 -- A store of which one key that is kept in the file has other attributes and bytes.
-use Rattle.std.proofs.Common.{eq-eqb, ne_eqb, Bool, List, None, Option, Some, ap, cond, false, inl, inr, nat_lt, refl, subst, sym, true, ℕ, ◌<◌, ◌==◌, ◌∙◌, ◌≡◌, ◌≢◌, ◌≤◌, ◌⊎◌}
-use Rattle.store_core.proofs.Common.{Agrees, Attributes, cases_eq, cell_state, eqb-true, false≢true, HeldKeys, holds_its_key, holds_key, HoldsHandle, HoldsKeys, is_opaque, is_volatile, is_volatile_of, IsDirectory, IsGone, IsKeyOf, IsSoundKey, IsSoundStore, Key, KeyMap, len_kept-insert, nat_cmp_total, NoKey, Open, Pairs, put, same_Some, Slot, slot_at, taken}
-use Rattle.std.specs.FinMap as map
-use Rattle.key_cells.specs.declared.state.CellState as cell
-use Rattle.store_model.specs.Store as model
+use Rattle.store_core.proofs.Common.{Agrees, ap, Attributes, Bool, cases_eq, cell_state, CellState, cond, eq-eqb, eqb-true, false, false≢true, has_secure_element, HeldKeys, holds_its_key, holds_key, HoldsHandle, HoldsKeys, inl, inr, is_opaque, is_volatile, is_volatile_of, IsDirectory, IsGone, IsKeyOf, IsSoundKey, IsSoundStore, Key, KeyMap, len_kept-insert, List, map_get, map_insert, map_len, map_remove, Model, nat_cmp-IsAntisymmetric, nat_cmp_total, nat_lt, ne_eqb, NoKey, None, Open, Option, Pairs, put, refl, retain_keys, same_map, same_Some, Slot, slot_at, Some, subst, sym, taken, true, ℕ, ◌<◌, ◌==◌, ◌∙◌, ◌≡◌, ◌≢◌, ◌≤◌, ◌⊎◌}
 use Rattle.store_core.proofs.Kept.{HasCellKey, lasting, local, kept_checked}
 
 -- as many keys are kept of the map
@@ -15,54 +11,54 @@ put_back : (b : Bool) (x o : Option Key) → (b ≡ true → o ≡ x) → o ≡ 
 put_back true x o is = is refl
 put_back false x o is = refl
 
-over_removed : (keys : KeyMap) (id : ℕ) (new : Key) → map.insert keys id new ≡ map.insert (map.remove keys id) id new
-over_removed keys id new = map.same_map nat_cmp_total map.nat_cmp-IsAntisymmetric _ _ (λ q.
-    put keys id new q ∙ put_twice (q == id) (Some new) (map.get keys q) ∙ sym (put (map.remove keys id) id new q ∙ ap (cond (q == id) (Some new)) (taken keys id q)))
+over_removed : (keys : KeyMap) (id : ℕ) (new : Key) → map_insert keys id new ≡ map_insert (map_remove keys id) id new
+over_removed keys id new = same_map nat_cmp_total nat_cmp-IsAntisymmetric _ _ (λ q.
+    put keys id new q ∙ put_twice (q == id) (Some new) (map_get keys q) ∙ sym (put (map_remove keys id) id new q ∙ ap (cond (q == id) (Some new)) (taken keys id q)))
 
-pub back_again : (keys : KeyMap) (id : ℕ) (key : Key) → map.get keys id ≡ Some key → keys ≡ map.insert (map.remove keys id) id key
-back_again keys id key is = map.same_map nat_cmp_total map.nat_cmp-IsAntisymmetric _ _ (λ q.
-    put_back (q == id) (Some key) (map.get keys q) (λ same. ap (map.get keys) (eqb-true q id same) ∙ is) ∙ sym (put (map.remove keys id) id key q ∙ ap (cond (q == id) (Some key)) (taken keys id q)))
+pub back_again : (keys : KeyMap) (id : ℕ) (key : Key) → map_get keys id ≡ Some key → keys ≡ map_insert (map_remove keys id) id key
+back_again keys id key is = same_map nat_cmp_total nat_cmp-IsAntisymmetric _ _ (λ q.
+    put_back (q == id) (Some key) (map_get keys q) (λ same. ap (map_get keys) (eqb-true q id same) ∙ is) ∙ sym (put (map_remove keys id) id key q ∙ ap (cond (q == id) (Some key)) (taken keys id q)))
 
-pub same_count : (p : ℕ → Bool) (keys : KeyMap) (id : ℕ) (key new : Key) → map.get keys id ≡ Some key → map.len (map.retain_keys (map.insert keys id new) p) ≡ map.len (map.retain_keys keys p)
+pub same_count : (p : ℕ → Bool) (keys : KeyMap) (id : ℕ) (key new : Key) → map_get keys id ≡ Some key → map_len (retain_keys (map_insert keys id new) p) ≡ map_len (retain_keys keys p)
 same_count p keys id key new is =
-    let left = map.remove keys id in
-    let none : map.get left id ≡ None = taken keys id id ∙ ap (λ b. cond b None (map.get keys id)) (eq-eqb id id refl) in
-    let count : KeyMap → ℕ = λ m. map.len (map.retain_keys m p) in
+    let left = map_remove keys id in
+    let none : map_get left id ≡ None = taken keys id id ∙ ap (λ b. cond b None (map_get keys id)) (eq-eqb id id refl) in
+    let count : KeyMap → ℕ = λ m. map_len (retain_keys m p) in
     ap count (over_removed keys id new) ∙ len_kept-insert p left id new none ∙ sym (ap count (back_again keys id key is) ∙ len_kept-insert p left id key none)
 
-abbrev pub replaced : model.Store → ℕ → Key → model.Store
-replaced m id new = record m { keys = map.insert m.keys id new }
+abbrev pub replaced : Model → ℕ → Key → Model
+replaced m id new = record m { keys = map_insert m.keys id new }
 
 -- what is found in it
-abbrev pub IsFoundIn : model.Store → (id : ℕ) → Key → (q : ℕ) → Key → Type 0
-IsFoundIn m id new q k = ((q ≡ id) × (new ≡ k)) ⊎ ((q ≢ id) × (map.get m.keys q ≡ Some k))
+abbrev pub IsFoundIn : Model → (id : ℕ) → Key → (q : ℕ) → Key → Type 0
+IsFoundIn m id new q k = ((q ≡ id) × (new ≡ k)) ⊎ ((q ≢ id) × (map_get m.keys q ≡ Some k))
 
-module _ (m : model.Store) (id : ℕ) (new : Key) where
-  pub put_here : map.get (map.insert m.keys id new) id ≡ Some new
-  put_here = put m.keys id new id ∙ ap (λ b. cond b (Some new) (map.get m.keys id)) (eq-eqb id id refl)
+module _ (m : Model) (id : ℕ) (new : Key) where
+  pub put_here : map_get (map_insert m.keys id new) id ≡ Some new
+  put_here = put m.keys id new id ∙ ap (λ b. cond b (Some new) (map_get m.keys id)) (eq-eqb id id refl)
 
-  pub put_other : (q : ℕ) → q ≢ id → map.get (map.insert m.keys id new) q ≡ map.get m.keys q
-  put_other q other = put m.keys id new q ∙ ap (λ b. cond b (Some new) (map.get m.keys q)) (ne_eqb q id other)
+  pub put_other : (q : ℕ) → q ≢ id → map_get (map_insert m.keys id new) q ≡ map_get m.keys q
+  put_other q other = put m.keys id new q ∙ ap (λ b. cond b (Some new) (map_get m.keys q)) (ne_eqb q id other)
 
-  found_in : (q : ℕ) (k : Key) → map.get (map.insert m.keys id new) q ≡ Some k → IsFoundIn m id new q k
+  found_in : (q : ℕ) (k : Key) → map_get (map_insert m.keys id new) q ≡ Some k → IsFoundIn m id new q k
   found_in q k is = elim (cases_eq q id) [
-    | inl same ↦ inl (same, same_Some new k (sym put_here ∙ (ap (map.get (map.insert m.keys id new)) (sym same) ∙ is)))
+    | inl same ↦ inl (same, same_Some new k (sym put_here ∙ (ap (map_get (map_insert m.keys id new)) (sym same) ∙ is)))
     | inr other ↦ inr (other, sym (put_other q other) ∙ is)
   ]
 
 -- A key that is kept in the file, and what was loaded of it.
-module _ (m : model.Store) (id : ℕ) (key : Key) (a : Attributes) (bytes : List ℕ) (there : map.get m.keys id ≡ Some key) (persistent : is_volatile key.attributes ≡ false) (is : IsKeyOf a bytes) (named : a.id.0 ≡ id) where
+module _ (m : Model) (id : ℕ) (key : Key) (a : Attributes) (bytes : List ℕ) (there : map_get m.keys id ≡ Some key) (persistent : is_volatile key.attributes ≡ false) (is : IsKeyOf a bytes) (named : a.id.0 ≡ id) where
   abbrev pub loaded : Key
   loaded = record key { attributes = a; bytes = bytes }
 
-  abbrev pub after : model.Store
+  abbrev pub after : Model
   after = replaced m id loaded
 
   key_after : (q : ℕ) (k : Key) → IsSoundStore m → IsFoundIn m id loaded q k → IsSoundKey after q k
   key_after q k s (inl here) = subst (IsSoundKey after q) here.1 (record {
     identifier = named ∙ sym here.0;
     given = (s.keys id key there).given;
-    attributes = kept_checked a bytes is (model.has_secure_element m);
+    attributes = kept_checked a bytes is (has_secure_element m);
     volatile = λ volatile. absurd (false≢true (sym (lasting a bytes is) ∙ volatile));
   })
   key_after q k s (inr old) = let was = s.keys q k old.1 in record {
@@ -89,7 +85,7 @@ module _ (m : model.Store) (id : ℕ) (key : Key) (a : Attributes) (bytes : List
   }
 
   -- the directory has it
-  pub directory_after : (slots : List cell.CellState) → IsDirectory slots m → IsDirectory slots after
+  pub directory_after : (slots : List CellState) → IsDirectory slots m → IsDirectory slots after
   directory_after slots d = record {
     sized = d.sized;
     there = λ q k e lasts. in_cell q k (found_in m id loaded q k e) lasts;
@@ -102,8 +98,8 @@ module _ (m : model.Store) (id : ℕ) (key : Key) (a : Attributes) (bytes : List
 
     of_cell : (q number : ℕ) → ((q ≡ id) ⊎ (q ≢ id)) → HasCellKey m q number → HasCellKey after q number
     of_cell q number (inl same) k =
-        let own : k.0 ≡ key = same_Some k.0 key (sym k.1 ∙ (ap (map.get m.keys) same ∙ there)) in
-        (loaded, ap (map.get after.keys) same ∙ put_here m id loaded, lasting a bytes is, sym (ap (λ (x : Key). x.number) own) ∙ k.3)
+        let own : k.0 ≡ key = same_Some k.0 key (sym k.1 ∙ (ap (map_get m.keys) same ∙ there)) in
+        (loaded, ap (map_get after.keys) same ∙ put_here m id loaded, lasting a bytes is, sym (ap (λ (x : Key). x.number) own) ∙ k.3)
     of_cell q number (inr other) k = (k.0, put_other m id loaded q other ∙ k.1, k.2, k.3)
 
   -- a device hasn't it

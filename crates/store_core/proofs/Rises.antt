@@ -1,6 +1,5 @@
 -- Histories whose counts and moments never fall.
-use Rattle.std.proofs.Common.{Bool, List, [], arith, length, suc, true, ℕ, ◌++◌, ◌<◌, ◌∷◌, ◌≡◌, ◌≤◌}
-use Rattle.store_core.proofs.Common.{Entry, Opening, done_at, last_counts}
+use Rattle.store_core.proofs.Common.{[], arith, Bool, done_at, Entry, last_counts, length, List, Opening, suc, true, ℕ, ◌++◌, ◌<◌, ◌∷◌, ◌≡◌, ◌≤◌}
 use Rattle.store_core.specs.Rising.{AreRising, opening_after}
 
 -- one entry more, whose moment is the last of the longer history

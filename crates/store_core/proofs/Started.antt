@@ -1,15 +1,8 @@
 -- A store that was opened stands for a start, before any call.
-use Rattle.std.proofs.Common.{Bool, IfSome, List, None, Option, Some, [], ap, arith, count_by, false, is_some, length, nat_lt, refl, replicate, slice_get, slice_index, slice_index_or, subst, suc, sym, true, zero, ℕ, ◌+◌, ◌↔◌, ◌∙◌, ◌≡◌, ◌≤◌}
-use Rattle.store_core.proofs.Common.{Agrees, AreFound, AreHoldings, AreOpened, Attributes, cell_state, count_by-le-length, durable_keys, empty_ones, empty_slot, false≢true, for_told, found_in, HasKey, HasOneEach, HeldKeys, HoldsKeys, is_opaque, is_open, is_volatile, is_volatile_of, IsDirectory, IsHolding, IsNumbered, IsOpened, IsOpeningRefused, IsStart, IsVolatileKey, KeepsKeys, Key, KeyFile, Keys, Lacks, length-replicate, lt-ltb, Memory, of_volatile, Open, OpenedKey, Opening, opening_of, Pairs, Service, service_start, Settings, some_weaker, Sound, stands_fits, StandsFor, StandsForContents, StandsForKeys, start_of, Store}
-use Rattle.disk_face.specs.declared.Disk as Disk
-use Rattle.driver_dispatch.specs.declared.devices.Devices as Devices
-use Rattle.admission.specs.declared.rules.Admission as Admission
+use Rattle.store_core.proofs.Common.{[], AdmissionGhosts, Agrees, ap, AreFound, AreHoldings, AreOpened, arith, Attributes, Bool, cell_state, CellState, count_by, count_by-le-length, count_persistent, DevicesGhosts, DiskGhosts, durable_keys, empty_ones, empty_slot, false, false≢true, for_told, found_in, HasKey, HasOneEach, HeldKeys, HoldsKeys, IfSome, is_opaque, is_open, is_some, is_volatile, is_volatile_of, IsDirectory, IsHolding, IsNumbered, IsOpened, IsOpeningRefused, IsStart, IsVolatileKey, KeepsKeys, Key, KeyFile, Keys, Lacks, length, length-replicate, List, live_volatile, lt-ltb, map_get, Memory, Model, nat_lt, None, of_volatile, Open, OpenedKey, Opening, opening_of, Option, Pairs, refl, replicate, Service, Settings, slice_get, slice_index, slice_index_or, Some, some_weaker, Sound, stands_fits, StandsFor, StandsForContents, StandsForKeys, start_of, Store, subst, suc, sym, true, zero, ℕ, ◌+◌, ◌↔◌, ◌∙◌, ◌≡◌, ◌≤◌, service_of}
 use Rattle.std.proofs.lemmas.List.Elements.{All-replicate}
-use Rattle.std.specs.FinMap as map
-use Rattle.key_cells.specs.declared.state.CellState as cell
 use Rattle.key_cells.proofs.Opened.{calm_none, refused_calm}
 use Rattle.persistent_keys.proofs.Founding.{found_stands}
-use Rattle.store_model.specs.Store as model
 use Rattle.store_model.proofs.Starts.{store_starts}
 use Rattle.store_core.specs.declared.store.Opened.{Opened}
 use Rattle.store_core.proofs.FoundMap.{HasEachOnce, AreKept, id_of, numbered, found_at, at_found, are_found, counted}
@@ -32,20 +25,20 @@ none_out callers few = record {
 
 -- KEYS THAT WERE OPENED, AS THE MODEL'S
 
-module _ (told : Option (List ℕ)) (slots : List cell.CellState) (found : List OpenedKey) (settings : Settings) (kept : AreKept found) (once : HasEachOnce found) where
-  abbrev first : model.Store
+module _ (told : Option (List ℕ)) (slots : List CellState) (found : List OpenedKey) (settings : Settings) (kept : AreKept found) (once : HasEachOnce found) where
+  abbrev first : Model
   first = start_of settings found
 
-  pub none_volatile : (id : ℕ) → IsVolatileKey (map.get first.keys id) → ⊥
-  none_volatile id = of (map.get first.keys id) refl
+  pub none_volatile : (id : ℕ) → IsVolatileKey (map_get first.keys id) → ⊥
+  none_volatile id = of (map_get first.keys id) refl
     where
-      of : (o : Option Key) → map.get first.keys id ≡ o → IsVolatileKey o → ⊥
+      of : (o : Option Key) → map_get first.keys id ≡ o → IsVolatileKey o → ⊥
       of None at is = is
       of (Some key) at is =
           let f = found_at 0 found id key at in
           false≢true (sym (lasting f.from.attributes f.from.bytes (kept.each f.place f.from f.there)) ∙ (ap (λ (k : Key). is_volatile k.attributes) (sym f.is) ∙ is))
 
-  none_opaque : (id : ℕ) (key : Key) → map.get first.keys id ≡ Some key → is_opaque key.attributes ≡ true → ⊥
+  none_opaque : (id : ℕ) (key : Key) → map_get first.keys id ≡ Some key → is_opaque key.attributes ≡ true → ⊥
   none_opaque id key at is =
       let f = found_at 0 found id key at in
       false≢true (sym (local f.from.attributes f.from.bytes (kept.each f.place f.from f.there)) ∙ (ap (λ (k : Key). is_opaque k.attributes) (sym f.is) ∙ is))
@@ -60,10 +53,10 @@ module _ (told : Option (List ℕ)) (slots : List cell.CellState) (found : List 
   not_of c id few true is = absurd (of_volatile id c few is)
   not_of c id few false is = refl
 
-  pub none_live : (c : ℕ) → model.live_volatile first.keys c ≡ 0
+  pub none_live : (c : ℕ) → live_volatile first.keys c ≡ 0
   none_live c = counted (is_volatile_of c) false 0 found once (λ i key e. not_of c (id_of key) (low i key e) (is_volatile_of c (id_of key)) refl)
 
-  pub all_persistent : model.count_persistent first.keys ≡ length found
+  pub all_persistent : count_persistent first.keys ≡ length found
   all_persistent = counted (λ id. nat_lt id 0x40000000) true 0 found once (λ i key e. lt-ltb (id_of key) 0x40000000 (let most = low i key e in omega arith))
 
   -- a directory of so many numbered cells has these keys
@@ -78,7 +71,7 @@ module _ (told : Option (List ℕ)) (slots : List cell.CellState) (found : List 
           (p.at, p.within, p.slot ∙ (ap (λ (x : ℕ). Open x f.place) f.named ∙ ap (Open id) number));
       only = λ c id number lt is.
           let k = are.each c id number lt is in
-          let at : map.get first.keys id ≡ Some (numbered (0 + number) k.0) = ap (map.get first.keys) (sym k.2) ∙ at_found 0 found once number k.0 k.1 in
+          let at : map_get first.keys id ≡ Some (numbered (0 + number) k.0) = ap (map_get first.keys) (sym k.2) ∙ at_found 0 found once number k.0 k.1 in
           (numbered (0 + number) k.0, at, lasting k.0.attributes k.0.bytes k.3, omega arith);
       one = λ c other id number another lt lt' is is'. one id c other lt lt' (has_own (cell_state slots c) id number is) (has_own (cell_state slots other) id another is');
     }
@@ -88,7 +81,7 @@ module _ (told : Option (List ℕ)) (slots : List cell.CellState) (found : List 
 
 -- A STORE THAT WAS OPENED
 
-module _ {D A C : Type 0} (disks : Disk.Ghosts D) (elements : Devices.Ghosts A) (admits : Admission.Ghosts C) where
+module _ {D A C : Type 0} (disks : DiskGhosts D) (elements : DevicesGhosts A) (admits : AdmissionGhosts C) where
   abbrev Start : Opened D A C → Service → Type 0
   Start = IsStart disks elements admits
 
@@ -112,7 +105,7 @@ module _ {D A C : Type 0} (disks : Disk.Ghosts D) (elements : Devices.Ghosts A) 
     abbrev disk : D
     disk = store.file.cells.disk
 
-    abbrev slots : List cell.CellState
+    abbrev slots : List CellState
     slots = store.file.cells.states.items
 
     keys_of : (start : Service) → (s : Start store.opened start) → AreOpened (disks.contents disk) slots s.found
@@ -125,7 +118,7 @@ module _ {D A C : Type 0} (disks : Disk.Ghosts D) (elements : Devices.Ghosts A) 
     pub starts : (settings : Settings) → settings.seed ≡ store.opened.seed.value → settings.labels ≡ admits.labels store.rules → settings.locations ≡ elements.locations store.devices → (start : Service) × Start store.opened start
     starts settings seed_is labels_are locations_are =
         let keys = some_opened (disks.contents disk) slots new.file.sized new.file.numbered (cell_key slots (disks.contents first) (disks.contents disk) (disks.may_leave disk) new.file.named new.file.tells new.file.found sounds reads) in (
-          service_start settings keys.0,
+          service_of (start_of settings keys.0),
           record {
             settings = settings;
             found = keys.0;
@@ -194,7 +187,7 @@ module _ {D A C : Type 0} (disks : Disk.Ghosts D) (elements : Devices.Ghosts A) 
     stands lacks only_now start callers s few =
         let found : List OpenedKey = s.found in
         let settings : Settings = s.settings in
-        let m : model.Store = start_of settings found in
+        let m : Model = start_of settings found in
         let sized = new.file.sized in
         let numbered_by = new.file.numbered in
         let are : AreOpened (disks.contents disk) slots found = keys_of start s in
@@ -224,7 +217,7 @@ module _ {D A C : Type 0} (disks : Disk.Ghosts D) (elements : Devices.Ghosts A) 
             device = device_starts (disks.contents disk) slots found settings kept once (elements.keys store.devices) lacks;
             file = file;
             sure = λ tells none. opened_sure (disks.contents first) slots sized new.file.found (sym new.file.tells ∙ tells);
-            promise = λ tells. promise_starts start only_now (subst (λ (x : model.Store). StandsForKeys disks disk slots (durable_keys x) []) store_is (file tells));
+            promise = λ tells. promise_starts start only_now (subst (λ (x : Model). StandsForKeys disks disk slots (durable_keys x) []) store_is (file tells));
             freed = λ tells. ([], refl, tt);
             caused = tt;
             allowed = λ t. tt;

@@ -1,7 +1,5 @@
 -- Directories without a cell in doubt, and what is in the cells of their files.
-use Rattle.std.proofs.Common.{IfSome, List, None, Option, Some, [], ap, arith, inl, inr, is_some, length, refl, set, subst, sym, true, ℕ, ◌<◌, ◌∙◌, ◌∷◌, ◌≡◌, ◌⊎◌}
-use Rattle.store_core.proofs.Common.{Absent, body, cell_state, CellState, closed, Content, content_at, Doubt, Doubtful, false≢true, Finds, Free, gate, get_or-map, get_or-replicate, HasKeyOrIsClosed, HasKeyOrZeros, HoldsKey, IsDoubtedIn, IsFoundIn, IsSure, Keys, map-set, Open, opened_gate, Present, settled_state, settled_states, Shows, Shut, StandsForKeys, Stored, stored, TellsCell, Unsure, zeros}
-use Rattle.disk_face.specs.declared.Disk as Disk
+use Rattle.store_core.proofs.Common.{[], Absent, ap, arith, body, cell_state, CellState, closed, Content, content_at, DiskGhosts, Doubt, Doubtful, false≢true, Finds, Free, gate, get_or-map, get_or-replicate, HasKeyOrIsClosed, HasKeyOrZeros, HoldsKey, IfSome, inl, inr, is_some, IsDoubtedIn, IsFoundIn, IsSure, Keys, length, List, map-set, None, Open, opened_gate, Option, Present, refl, set, settled_state, settled_states, Shows, Shut, Some, StandsForKeys, Stored, stored, subst, sym, TellsCell, true, Unsure, zeros, ℕ, ◌<◌, ◌∙◌, ◌∷◌, ◌≡◌, ◌⊎◌}
 use Rattle.key_cells.proofs.Clearing.{all_settled}
 use Rattle.persistent_keys.proofs.Filing.{settled_twice}
 use Rattle.store_core.proofs.Wiped.{shows_free}
@@ -39,7 +37,7 @@ sure_cell keys doubt (Open id number) (Doubtful bytes) g b sure shows tells = ab
 sure_cell keys doubt Shut content g b sure shows tells = cc
 sure_cell keys doubt Unsure content g b sure shows tells = cc
 
-pub sure_cells : {D : Type 0} (disks : Disk.Ghosts D) (disk : D) (slots : List CellState) (keys : Keys) (doubt : Doubt) → StandsForKeys disks disk slots keys doubt → IsSure slots →
+pub sure_cells : {D : Type 0} (disks : DiskGhosts D) (disk : D) (slots : List CellState) (keys : Keys) (doubt : Doubt) → StandsForKeys disks disk slots keys doubt → IsSure slots →
     (image : List ℕ) → disks.may_leave disk image → (cell : ℕ) → cell < 512 → HasKeyOrZeros keys cell image
 sure_cells disks disk slots keys doubt s sure image left cell lt =
     let sized = s.filed.sized in
@@ -56,7 +54,7 @@ any_cell keys doubt Shut (Doubtful bytes) g b shows tells = inr (inr shows)
 any_cell keys doubt Unsure (Doubtful bytes) g b shows tells = inr (inl (subst (IsDoubtedIn doubt) (sym shows) tells))
 any_cell keys doubt slot content g b shows tells = absurd shows
 
-pub any_cells : {D : Type 0} (disks : Disk.Ghosts D) (disk : D) (slots : List CellState) (keys : Keys) (doubt : Doubt) → StandsForKeys disks disk slots keys doubt →
+pub any_cells : {D : Type 0} (disks : DiskGhosts D) (disk : D) (slots : List CellState) (keys : Keys) (doubt : Doubt) → StandsForKeys disks disk slots keys doubt →
     (image : List ℕ) → disks.may_leave disk image → (cell : ℕ) → cell < 512 → HasKeyOrIsClosed keys doubt cell image
 any_cells disks disk slots keys doubt s image left cell lt =
     any_cell keys doubt (cell_state slots cell) (content_at s.contents cell) (gate cell image) (body cell image) ((s.stands.each image left).each cell lt) (s.filed.each cell lt)

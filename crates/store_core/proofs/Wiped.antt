@@ -1,21 +1,18 @@
 -- What is wiped: the slots of keys that are gone, and free cells.
-use Rattle.std.proofs.Common.{List, ap, arith, inl, inr, refl, subst, sym, ℕ, ◌+◌, ◌<◌, ◌∙◌, ◌≡◌, ◌⊎◌}
-use Rattle.store_core.proofs.Common.{Absent, Agrees, Content, Doubtful, Free, HasNumber, IsLawfulSlot, Pairs, Present, Shows, Slot, closed, empty_slot, filling_slot, is_full, named, readers_out, slot_at, zeros}
-use Rattle.key_cells.specs.declared.state.CellState as cell
+use Rattle.store_core.proofs.Common.{Absent, Agrees, ap, arith, CellState, closed, Content, Doubtful, empty_slot, filling_slot, Free, HasNumber, inl, inr, is_full, IsLawfulSlot, List, Model, named, Pairs, Present, readers_out, refl, Shows, Slot, slot_at, subst, sym, zeros, ℕ, ◌+◌, ◌<◌, ◌∙◌, ◌≡◌, ◌⊎◌}
 use Rattle.slot_states.specs.declared.SlotState.{SlotState}
 use Rattle.slot_states.specs.declared.SlotState.TheVariants.{Empty, Filling, Full, Pending}
-use Rattle.store_model.specs.Store as model
 
 -- a cell that the directory has as free
-pub shows_free : (slot : cell.CellState) (content : Content) (gate body : List ℕ) → slot ≡ Free → Shows slot content gate body → (gate ≡ closed) × (body ≡ zeros)
-shows_free slot content gate body free shows = go content (subst (λ (s : cell.CellState). Shows s content gate body) free shows) where
+pub shows_free : (slot : CellState) (content : Content) (gate body : List ℕ) → slot ≡ Free → Shows slot content gate body → (gate ≡ closed) × (body ≡ zeros)
+shows_free slot content gate body free shows = go content (subst (λ (s : CellState). Shows s content gate body) free shows) where
   go : (c : Content) → Shows Free c gate body → (gate ≡ closed) × (body ≡ zeros)
   go Absent is = is
   go (Present bytes) is = absurd is
   go (Doubtful bytes) is = is
 
 -- a slot of a number that no key has and no lease names is wiped
-pub wiped_slot : (slots : List Slot) (m : model.Store) (all : List Pairs) (i number : ℕ) → Agrees slots m all → IsLawfulSlot (slot_at slots i) → i < 384 → (HasNumber m number → ⊥) → named i (number + 1) all ≡ 0 → (slot_at slots i).creation ≡ number →
+pub wiped_slot : (slots : List Slot) (m : Model) (all : List Pairs) (i number : ℕ) → Agrees slots m all → IsLawfulSlot (slot_at slots i) → i < 384 → (HasNumber m number → ⊥) → named i (number + 1) all ≡ 0 → (slot_at slots i).creation ≡ number →
     (slot_at slots i ≡ empty_slot) ⊎ (slot_at slots i ≡ filling_slot)
 wiped_slot slots m all i number agrees law lt gone none is = go (slot_at slots i).state refl where
   go : (state : SlotState) → (slot_at slots i).state ≡ state → (slot_at slots i ≡ empty_slot) ⊎ (slot_at slots i ≡ filling_slot)

@@ -1,23 +1,12 @@
 -- Cells that stay zeros over the calls of a turn.
-use Rattle.std.proofs.Common.{List, None, Option, [], ap, arith, cond, length, refl, set, subst, sym, true, ℕ, ⊎_elim, ◌<◌, ◌==◌, ◌∙◌, ◌∷◌, ◌≡◌}
-use Rattle.store_core.proofs.Common.{cell_state, eqb-true, false≢true, FileStaysZeros, Free, get_or-set_same, has_id, HasZeros, IsDirectory, KeyFile, Keys, last_store, LeavesZeros, length-map, none-some, Open, settled_state, settled_states, stays, StaysFree, Store, Stored, Within, within_both, within_none}
-use Rattle.disk_face.specs.declared.Disk as Disk
-use Rattle.driver_dispatch.specs.declared.devices.Devices as Devices
-use Rattle.admission.specs.declared.rules.Admission as Admission
-use Rattle.key_cells.specs.declared.state.CellState as cell
+use Rattle.store_core.proofs.Common.{[], AdmissionGhosts, ap, arith, cell_state, CellState, cond, DevicesGhosts, DiskGhosts, eqb-true, false≢true, FileStaysZeros, Free, get_or-set_same, has_id, HasZeros, IsDirectory, KeyFile, Keys, last_store, LeavesZeros, length, length-map, List, map_get, Model, None, none-some, Open, Option, set, settled_state, settled_states, StaysFree, Store, Stored, subst, sym, true, Within, within_both, within_none, ℕ, ⊎_elim, ◌<◌, ◌==◌, ◌∙◌, ◌∷◌, ◌≡◌}
 use Rattle.persistent_keys.specs.Calls.{KeepsFile}
-use Rattle.std.specs.FinMap as finmap
-use Rattle.store_model.specs.Store as model
 
 -- keys with another at one identifier
 abbrev pub keys_put : Keys → ℕ → Option Stored → Keys
 keys_put keys id key = λ other. cond (other == id) key (keys other)
 
-module _ {D : Type 0} (disks : Disk.Ghosts D) where
-  -- no call
-  pub uncalled : (file : KeyFile D) → FileStaysZeros disks file file
-  uncalled file = λ keys doubt s. (stays disks file.cells.disk file.cells.states.items keys keys doubt (λ id. refl) s).zeros
-
+module _ {D : Type 0} (disks : DiskGhosts D) where
   -- a file that was read, and then changed
   pub read_first : (old mid new : KeyFile D) → mid.cells.states ≡ old.cells.states →
       KeepsFile disks old mid →
@@ -29,12 +18,12 @@ module _ {D : Type 0} (disks : Disk.Ghosts D) where
       (read.zeros c lt free between) (then keys doubt read.stands c lt between still) (λ image z. z) (λ image z. z)
 
 -- a cell that has an identifier is open
-open_of : (id : ℕ) (slot : cell.CellState) → has_id id slot ≡ true → (number : ℕ) × (slot ≡ Open id number)
+open_of : (id : ℕ) (slot : CellState) → has_id id slot ≡ true → (number : ℕ) × (slot ≡ Open id number)
 open_of id (Open own number) has = (number, ap (λ (n : ℕ). Open n number) (eqb-true own id has))
 open_of id slot has = absurd (false≢true has)
 
 -- the cells that have a destroyed key's identifier are free
-pub freed : (slots slots' : List cell.CellState) (m : model.Store) (id at : ℕ) → IsDirectory slots m → at < 512 → has_id id (cell_state slots at) ≡ true → slots' ≡ set (settled_states slots) at Free →
+pub freed : (slots slots' : List CellState) (m : Model) (id at : ℕ) → IsDirectory slots m → at < 512 → has_id id (cell_state slots at) ≡ true → slots' ≡ set (settled_states slots) at Free →
     (c : ℕ) → c < 512 → has_id id (cell_state slots c) ≡ true → cell_state slots' c ≡ Free
 freed slots slots' m id at d within has gone c lt had =
     let a = open_of id (cell_state slots at) has in
@@ -44,18 +33,18 @@ freed slots slots' m id at d within has gone c lt had =
     ap (λ ss. cell_state ss c) gone ∙ (ap (cell_state (set (settled_states slots) at Free)) same ∙ get_or-set_same (settled_states slots) at Free Free long)
 
 -- and no cell has an identifier that the model lacks
-pub lacks_cell : (slots : List cell.CellState) (m : model.Store) (id : ℕ) → IsDirectory slots m → finmap.get m.keys id ≡ None → (c : ℕ) → c < 512 → has_id id (cell_state slots c) ≡ true → ⊥
+pub lacks_cell : (slots : List CellState) (m : Model) (id : ℕ) → IsDirectory slots m → map_get m.keys id ≡ None → (c : ℕ) → c < 512 → has_id id (cell_state slots c) ≡ true → ⊥
 lacks_cell slots m id d none c lt has =
     let o = open_of id (cell_state slots c) has in
     let k = d.only c id o.0 lt o.1 in
     none-some k.0 (sym none ∙ k.1)
 
 -- a file that stays as it is
-pub untouched : {D : Type 0} (disks : Disk.Ghosts D) (old new : KeyFile D) → new ≡ old → LeavesZeros disks old new
+pub untouched : {D : Type 0} (disks : DiskGhosts D) (old new : KeyFile D) → new ≡ old → LeavesZeros disks old new
 untouched disks old new same = subst (LeavesZeros disks old) (sym same) (λ c lt free still. within_none (disks.moment old.cells.disk) (disks.left_since old.cells.disk) (HasZeros c))
 
 -- over many turns
-module _ {D A C : Type 0} (disks : Disk.Ghosts D) (elements : Devices.Ghosts A) (admits : Admission.Ghosts C) (cell : ℕ) (within : cell < 512) where
+module _ {D A C : Type 0} (disks : DiskGhosts D) (elements : DevicesGhosts A) (admits : AdmissionGhosts C) (cell : ℕ) (within : cell < 512) where
   abbrev disk_of : Store D A C → D
   disk_of store = store.file.cells.disk
 

@@ -4,7 +4,7 @@ use Rattle.std.specs.Option.{option_map_or}
 use Rattle.std.specs.FinMap as map
 use Rattle.disk_face.specs.Moments.{after_all, KeepsPromise}
 use Rattle.persistent_keys.specs.Files.{Stored, stored, Keys, Doubt, FitsKeys}
-use Rattle.store_model.specs.Prelude.{Key, Store, is_volatile, Destroy, FaultMark, Plain, Storage, Hardware, Corrupt, Reading, Writing, Service, Request, OnStore, Entry, outcome_of, key_changed}
+use Rattle.store_model.specs.Prelude.{Key, Store, is_volatile, Destroy, FaultMark, Plain, Storage, Writing, Service, Request, OnStore, Entry, outcome_of, key_changed}
 
 -- what a file keeps of a key: all of a persistent one
 abbrev pub kept : Option Key → Option Stored
@@ -25,10 +25,7 @@ abbrev pub doubt_by : FaultMark → (destroys : Bool) → Stored → Doubt → D
 doubt_by Plain destroys key doubt = []
 doubt_by (Storage (Writing true)) destroys key doubt = (key.attributes, key.bytes) ∷ []
 doubt_by (Storage (Writing false)) true key doubt = (key.attributes, key.bytes) ∷ doubt
-doubt_by (Storage (Writing false)) false key doubt = doubt
-doubt_by (Storage Reading) destroys key doubt = doubt
-doubt_by Hardware destroys key doubt = doubt
-doubt_by Corrupt destroys key doubt = doubt
+doubt_by _ destroys key doubt = doubt
 
 -- the service, and the keys in doubt
 pub record Course : Type 0 where

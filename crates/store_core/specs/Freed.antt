@@ -1,5 +1,5 @@
 -- Which cells of the file the destructions of a history have freed, and that these are zeros.
-use Rattle.std.specs.Prelude.{◌≡◌, ◌≢◌, ◌⊎◌, ◌<◌, ◌≤◌, ◌==◌, ℕ, Bool, true, false, cond, List, [], ◌∷◌, ◌++◌}
+use Rattle.std.specs.Prelude.{◌≡◌, ◌≢◌, ◌⊎◌, ◌<◌, ◌≤◌, ◌==◌, ℕ, Bool, true, false, cond, List, [], ◌∷◌}
 use Rattle.std.specs.List.{AllByRecursion}
 use Rattle.disk_face.specs.declared.Disk as Disk
 use Rattle.key_cells.specs.declared.state.CellState.{CellState}
@@ -21,10 +21,9 @@ without_cell cell (freed ∷ others) = cond (freed.cell == cell) (without_cell c
 -- What a call with a mark makes of the freed cells. One that destroys a persistent key for sure frees a cell more, which is none of
 -- them; one that makes a persistent key takes at most one of them, whether or not it fails; any other leaves them.
 abbrev pub ChangesFreed : (persistent destroys : Bool) → FaultMark → (done : ℕ) → (before after : List FreedCell) → Type 0
-ChangesFreed false destroys mark done before after = after ≡ before
-ChangesFreed true false mark done before after = (after ≡ before) ⊎ ((cell : ℕ) × (after ≡ without_cell cell before))
 ChangesFreed true true Plain done before after = (cell : ℕ) × AllByRecursion (λ (f : FreedCell). f.cell ≢ cell) before × (after ≡ record { cell = cell; since = done } ∷ before)
-ChangesFreed true true mark done before after = after ≡ before
+ChangesFreed true false mark done before after = (after ≡ before) ⊎ ((cell : ℕ) × (after ≡ without_cell cell before))
+ChangesFreed _ destroys mark done before after = after ≡ before
 
 -- so the calls of a history do, one after another
 abbrev pub HasFreed : Service → List Entry → (before after : List FreedCell) → Type 0

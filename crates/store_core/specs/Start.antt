@@ -7,7 +7,7 @@ use Rattle.key_cells.specs.declared.state.CellState as cell
 use Rattle.key_cells.specs.declared.state.CellState.TheVariants.{Open}
 use Rattle.key_cells.specs.Prelude.{body, cell_state, is_open, IsKeyOf, HoldsKey, HasKey}
 use Rattle.key_attributes.specs.declared.Attributes.{Attributes}
-use Rattle.store_model.specs.Prelude.{OpenedKey, Settings, Service, service_start}
+use Rattle.store_model.specs.Prelude.{OpenedKey, Settings, Service, service_of, start_of}
 use Rattle.store_core.specs.declared.store.Opened.{Opened}
 use Rattle.store_core.specs.declared.store.Store.{Store}
 use Rattle.store_core.specs.Represents.{Opening, StandsFor}
@@ -24,7 +24,7 @@ module _ {D A C : Type 0} (disks : Disk.Ghosts D) (elements : Devices.Ghosts A) 
   pub record IsStart (opened : Opened D A C) (start : Service) : Type 0 where
     pub settings : Settings
     pub found : List OpenedKey
-    pub is : start ≡ service_start settings found
+    pub is : start ≡ service_of (start_of settings found)
     pub seed_is : settings.seed ≡ opened.seed.value
     pub labels_are : settings.labels ≡ admits.labels opened.rules.value
     pub locations_are : settings.locations ≡ elements.locations opened.devices.value

@@ -174,11 +174,21 @@ impl<D: Disk, A: Devices, C: Admission> Store<D, A, C> {
         if recorded.lifetime.0 % 256 != 0 {
             return self.create_kept(caller, filling, recorded, source);
         }
-        if recorded.lifetime.0 / 256 == 1 {
-            return self.create_held(caller, filling, recorded, source);
-        }
         let number = self.found + self.ranked;
-        Ok(self.add(caller, filling, number, recorded))
+        if recorded.lifetime.0 / 256 != 1 {
+            return Ok(self.add(caller, filling, number, recorded));
+        }
+        let bytes = self.buffer.as_slice();
+        match give(&mut self.devices, number, recorded.key_type, source, bytes) {
+            Ok(()) => {
+                self.buffer.wipe();
+                Ok(self.add(caller, filling, number, recorded))
+            }
+            Err(Failed) => {
+                self.slots.give_up(filling);
+                Err(Unkept::Hardware)
+            }
+        }
     }
 
     // Puts a key into the file, and then into its slot.
@@ -221,52 +231,6 @@ impl<D: Disk, A: Devices, C: Admission> Store<D, A, C> {
         };
         self.slots.give_up(filling);
         Err(Unkept::Unwritten { closed_first })
-    }
-
-    // Puts a key into the device, and then into its slot, without its bytes.
-    fn create_held(
-        &mut self,
-        caller: u8,
-        filling: Filling,
-        recorded: Attributes,
-        source: Option<u64>,
-    ) -> Result<KeyId, Unkept>
-        requires first { 1 ≤ caller }
-        requires last { caller ≤ 16 }
-        requires volatile { is_volatile recorded ≡ true }
-        requires opaque { is_opaque recorded ≡ true }
-        requires ready { IsSomeReady D.Disk A.Devices C.Admission self.old caller recorded source (filling.slot, 0) }
-        requires size { D.size self.old.file.cells.disk ≡ 557120 }
-        requires few { self.old.ranked < 2 ^ 62 }
-        ensures size { D.size self.new.file.cells.disk ≡ 557120 }
-        ensures made { IfOk result (λ id. EntersMade D.Disk A.Devices C.Admission self.old (ranked_on self.new) caller recorded source filling.slot id.0) }
-        ensures unkept { IfErr result (λ why. EntersUnkept D.Disk A.Devices C.Admission self.old (ranked_on self.new) caller recorded source filling.slot why) }
-        ensures wipes { EndsOnly self.old.slots.table.slots self.new.slots.table.slots (IsFillingOf filling.slot) }
-        ensures emptied { OnErr result (slot_at self.new.slots.table.slots filling.slot ≡ empty_slot) }
-        ensures zeros { FileStaysZeros D.Disk self.old.file self.new.file }
-        ensures later { NoFewerFaults D.faults A.faults self.old self.new }
-        ensures tells { StillTells (D.contents self.old.file.cells.disk) (D.contents self.new.file.cells.disk) }
-        ensures knows { is_some (A.keys self.new.devices) ≡ is_some (A.keys self.old.devices) }
-        ensures ranked { self.new.ranked ≡ self.old.ranked }
-        ensures opened { self.new.opened ≡ self.old.opened }
-    {
-        let number = self.found + self.ranked;
-        match give(
-            &mut self.devices,
-            number,
-            recorded.key_type,
-            source,
-            self.buffer.as_slice(),
-        ) {
-            Ok(()) => {
-                self.buffer.wipe();
-                Ok(self.add(caller, filling, number, recorded))
-            }
-            Err(Failed) => {
-                self.slots.give_up(filling);
-                Err(Unkept::Hardware)
-            }
-        }
     }
 
     // Puts a volatile key whose bytes are in the buffer into the slot that waits for it, under the caller's next identifier.

@@ -9,7 +9,7 @@ ghost use Rattle.psa_status.specs.Rows.{first_row};
 ghost use Rattle.driver_dispatch.specs.Held.{without_key};
 ghost use Rattle.driver_dispatch.specs.Calls.{HoldsHandle, has_element};
 ghost use Rattle.key_cells.specs.declared.state.CellState.TheVariants.{Free};
-ghost use Rattle.key_cells.specs.Prelude.{HasNoKey, IsFirstWithKey, cell_state, has_id};
+ghost use Rattle.key_cells.specs.Prelude.{IsFirstWithKey, cell_state, has_id};
 ghost use Rattle.slot_states.specs.declared.SlotState.TheVariants.{Full};
 ghost use Rattle.slot_table.specs.Slots.{NoKey, holds_key, slot_at};
 ghost use Rattle.slot_table.specs.Changes.{destroyed_slot};
@@ -26,7 +26,7 @@ use crate::Store;
 use admission::Admission;
 use disk_face::Disk;
 use driver_dispatch::Devices;
-use key_attributes::KeyId;
+use key_attributes::{KeyId, LAST_STATED_ID};
 use key_slots::KeySlots;
 use psa_status::{Failed, Status};
 
@@ -81,16 +81,21 @@ impl<D: Disk, A: Devices, C: Admission> Store<D, A, C> {
             self.ranked += 1;
             return Ok(());
         }
-        if let Some(cell) = self.file.find(id.0) {
-            let removed = self.remove_kept(id, cell);
+        // a key whose identifier can be stated is in the file, and every other in a slot
+        if id.0 > LAST_STATED_ID {
+            let Some(slot) = self.slots.find(id) else {
+                self.ranked += 1;
+                return Err(NotDestroyed::Missing);
+            };
+            let removed = self.remove_volatile(id, slot);
             self.ranked += 1;
             return removed;
         }
-        let Some(slot) = self.slots.find(id) else {
+        let Some(cell) = self.file.find(id.0) else {
             self.ranked += 1;
             return Err(NotDestroyed::Missing);
         };
-        let removed = self.remove_volatile(id, slot);
+        let removed = self.remove_kept(id, cell);
         self.ranked += 1;
         removed
     }
@@ -118,7 +123,8 @@ impl<D: Disk, A: Devices, C: Admission> Store<D, A, C> {
         ensures opened { self.new.opened ≡ self.old.opened }
     {
         let closed = self.file.destroy(id.0, cell);
-        self.slots.destroy(id);
+        let slot = self.slots.find(id);
+        self.slots.destroy(id, slot);
         self.kept -= 1;
         match closed {
             Ok(()) => Ok(()),
@@ -128,11 +134,11 @@ impl<D: Disk, A: Devices, C: Admission> Store<D, A, C> {
         }
     }
 
-    // Destroys the key of a slot that no cell has.
+    // Destroys the key of a slot, which no cell has.
     fn remove_volatile(&mut self, id: KeyId, slot: u32) -> Result<(), NotDestroyed>
         requires stands { Stands D.Disk A.Devices C.Admission self.old }
         requires size { D.size self.old.file.cells.disk ≡ 557120 }
-        requires absent { HasNoKey self.old.file.cells.states.items id.0 }
+        requires high { 0x3fffffff < id.0 }
         requires within { slot < 384 }
         requires full { (slot_at self.old.slots.table.slots slot).state ≡ Full }
         requires there { holds_key id.0 (slot_at self.old.slots.table.slots slot) ≡ true }
@@ -152,7 +158,7 @@ impl<D: Disk, A: Devices, C: Admission> Store<D, A, C> {
     {
         let caller = caller_of(id);
         let forgotten = forget(&mut self.devices, &self.slots, slot);
-        self.slots.destroy(id);
+        self.slots.destroy(id, Some(slot));
         self.live[caller] -= 1;
         match forgotten {
             Ok(()) => Ok(()),

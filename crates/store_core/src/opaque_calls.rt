@@ -14,7 +14,7 @@ use crate::Store;
 use admission::Admission;
 use disk_face::Disk;
 use driver_dispatch::Devices;
-use key_attributes::KeyId;
+use key_attributes::{KeyId, LAST_STATED_ID};
 use key_policy::check_use;
 use secure_element_calls::{ElementCall, NotComputed, compute};
 
@@ -24,6 +24,10 @@ impl<D: Disk, A: Devices, C: Admission> Store<D, A, C> {
         ensures { HoldsOf D.Disk A.Devices C.Admission self.now
             (λ m. is_opaque_key (map.get m.keys id.0) ≡ result) }
     {
+        // a key of the file is never the element's
+        if id.0 <= LAST_STATED_ID {
+            return false;
+        }
         match self.slots.find(id) {
             Some(slot) => self.slots.attributes(slot).lifetime.0 >> 8 == 1,
             None => false,

@@ -100,41 +100,6 @@ impl<D: Disk, A: Devices, C: Admission> Store<D, A, C> {
         let Some(cell) = self.file.find(id.0) else {
             return Err(Unread::Missing);
         };
-        self.load(id, cell)
-    }
-
-    // Loads the key of a cell, which no slot has, into a slot. Where it can't be, the slot is given up.
-    fn load(&mut self, id: KeyId, cell: usize) -> Result<u32, Unread>
-        requires stands { Stands D.Disk A.Devices C.Admission self.old }
-        requires size { D.size self.old.file.cells.disk ≡ 557120 }
-        requires clear { IsClear self.old.buffer }
-        requires unknown { NoKey id.0 self.old.slots.table.slots }
-        requires there { IsFirstWithKey self.old.file.cells.states.items id.0 cell }
-        ensures size { D.size self.new.file.cells.disk ≡ 557120 }
-        ensures clear { IsClear self.new.buffer }
-        ensures within { IfOk result (λ i. i < 384) }
-        ensures full { IfOk result (λ i. (slot_at self.new.slots.table.slots i).state ≡ Full) }
-        ensures found { IfOk result (λ i. Brings D.Disk A.Devices C.Admission self.old self.new id.0
-            (IsBrought id.0 (slot_at self.new.slots.table.slots i))) }
-        ensures element { IfOk result (λ i. is_opaque (slot_at self.new.slots.table.slots i).attributes ≡ true → HasOpaque D.Disk A.Devices C.Admission self.old id.0) }
-        ensures missing { IsErrOf result unread.Missing → ⊥ }
-        ensures unread { OnErr result ((IsErrOf result unread.Missing → ⊥) → Brings D.Disk A.Devices C.Admission self.old self.new id.0 (HasPersistent id.0)) }
-        ensures disk { IsErrOf result unread.Disk → Rose (D.faults self.old.file.cells.disk) (D.faults self.new.file.cells.disk) }
-        ensures corrupt { IsErrOf result unread.Corrupt → is_some (D.contents self.new.file.cells.disk) ≡ false }
-        ensures same { D.contents self.new.file.cells.disk ≡ D.contents self.old.file.cells.disk }
-        ensures later { D.faults self.old.file.cells.disk ≤ D.faults self.new.file.cells.disk }
-        ensures wipes { TakesOne self.old.slots.table.slots self.new.slots.table.slots }
-        ensures emptied { OnErr result (KeepsOrEmpties self.old.slots.table.slots self.new.slots.table.slots) }
-        ensures directory { self.new.file.cells.states ≡ self.old.file.cells.states }
-        ensures unwritten { WritesNothing D.Disk self.old self.new }
-        ensures keeps { KeepsFile D.Disk self.old.file self.new.file }
-        ensures devices { self.new.devices ≡ self.old.devices }
-        ensures rules { self.new.rules ≡ self.old.rules }
-        ensures made { self.new.made ≡ self.old.made }
-        ensures found_count { self.new.found ≡ self.old.found }
-        ensures ranked { self.new.ranked ≡ self.old.ranked }
-        ensures opened { self.new.opened ≡ self.old.opened }
-    {
         let filling = self.slots.reserve();
         let number = self.file.creation(cell);
         match self.file.load(id.0, cell, &mut self.buffer) {

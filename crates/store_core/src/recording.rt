@@ -1,14 +1,19 @@
 //! What a creation records.
-ghost use Rattle.std.specs.Prelude.{◌≡◌, ◌≤◌, Some, None, IfErr, OnOk};
+ghost use Rattle.std.specs.Prelude.{◌≡◌, ◌≤◌, List, Some, None, is_some, IfErr, OnOk};
+ghost use Rattle.std.specs.FinMap as map;
 ghost use Rattle.psa_status.specs.Rows.{first_row};
-ghost use Rattle.store_model.specs.Prelude.{recorded_of, room_for_key_rows};
+ghost use Rattle.key_slots.specs.Holdings.{Pairs};
+ghost use Rattle.key_slots.specs.Standing.{Agrees};
+ghost use Rattle.store_model.specs.Store as model;
+ghost use Rattle.store_model.specs.Prelude.{IsSoundStore, recorded_of, room_for_key_rows};
 ghost use Rattle.store_core.specs.Creations.{HoldsWithin};
+ghost use Rattle.store_core.specs.Represents.{IsDirectory};
 
 use crate::Store;
 use admission::Admission;
 use disk_face::Disk;
 use driver_dispatch::Devices;
-use key_attributes::{Attributes, check_attributes};
+use key_attributes::{Attributes, KeyId, LAST_STATED_ID, check_attributes};
 use psa_status::Status;
 
 // How many volatile keys of a caller may be alive, how many it may make, and how many persistent keys there may be.
@@ -69,5 +74,22 @@ impl<D: Disk, A: Devices, C: Admission> Store<D, A, C> {
             return Err(Status::InsufficientStorage);
         }
         Ok(())
+    }
+
+    // Whether there is a key. One whose identifier can be stated is in the file, and every other in a slot.
+    fn has(&self, id: KeyId) -> bool
+        ensures { (m : model.Store) (all : List Pairs) → Agrees self.now.slots.table.slots m all → IsDirectory self.now.file.cells.states.items m → IsSoundStore m →
+            is_some (map.get m.keys id.0) ≡ result }
+    {
+        if id.0 > LAST_STATED_ID {
+            return match self.slots.find(id) {
+                Some(_slot) => true,
+                None => false,
+            };
+        }
+        match self.file.find(id.0) {
+            Some(_cell) => true,
+            None => false,
+        }
     }
 }

@@ -5,12 +5,9 @@ ghost use Rattle.disk_face.specs.Disk.{StillTells};
 ghost use Rattle.psa_status.specs.declared.Status.TheVariants.{InvalidHandle};
 ghost use Rattle.secret_bytes.specs.Buffer.{IsClear};
 ghost use Rattle.slot_table.specs.Slots.{empty_slot, filling_slot, holds_key, is_idle, is_last, slot_at};
-ghost use Rattle.key_slots.specs.Holdings.{Pairs};
-ghost use Rattle.key_slots.specs.Standing.{Agrees};
 ghost use Rattle.key_slots.specs.Wiping.{EndsOnly, IsEmptyOrIdle, IsFillingOf, IsIdleOf, IsLastOf, IsTakenOf, TakesOne};
-ghost use Rattle.store_model.specs.Store as model;
 ghost use Rattle.store_model.specs.Prelude.{HasNumber, Plain};
-ghost use Rattle.store_core.specs.Represents.{Adds, AddsAs, Gives, HasOut, IsDirectory, Reads, Stands, Steps, Takes};
+ghost use Rattle.store_core.specs.Represents.{Adds, AddsAs, Gives, HasOut, Reads, Stands, Steps, Takes};
 ghost use Rattle.store_core.specs.Refusals.{CallsNothing, WritesNothing};
 ghost use Rattle.store_core.specs.Rising.{NoFewerFaults};
 ghost use Rattle.store_core.specs.Uses.{HasAttributes, IsRefused, KeepsOrEmpties, mark_of, there_rows};
@@ -147,20 +144,6 @@ impl<D: Disk, A: Devices, C: Admission> Store<D, A, C> {
         }
     }
 
-    // Whether there is a key.
-    pub(crate) fn has(&self, id: KeyId) -> bool
-        ensures { (m : model.Store) (all : List Pairs) → Agrees self.now.slots.table.slots m all → IsDirectory self.now.file.cells.states.items m →
-            is_some (map.get m.keys id.0) ≡ result }
-    {
-        if let Some(_slot) = self.slots.find(id) {
-            return true;
-        }
-        match self.file.find(id.0) {
-            Some(_cell) => true,
-            None => false,
-        }
-    }
-
     /// Forgets a key in memory that is in the file too and that nobody reads. No device is called. Ranked.
     pub fn purge(&mut self, id: KeyId) -> Result<(), Status>
         requires few { self.old.ranked < 2 ^ 62 }
@@ -177,11 +160,14 @@ impl<D: Disk, A: Devices, C: Admission> Store<D, A, C> {
         ensures opened { self.new.opened ≡ self.old.opened }
     {
         self.ranked += 1;
-        if !self.has(id) {
-            return Err(Status::InvalidHandle);
+        if let Some(slot) = self.slots.find(id) {
+            self.slots.purge(id, slot);
+            return Ok(());
         }
-        self.slots.purge(id);
-        Ok(())
+        match self.file.find(id.0) {
+            Some(_cell) => Ok(()),
+            None => Err(Status::InvalidHandle),
+        }
     }
 
     /// The disk and the devices.

@@ -1,4 +1,4 @@
-use Rattle.std.proofs.Common.{arith}
+use Rattle.store_core.proofs.Common.{arith}
 use Rattle.store_core.proofs.store.Store.a_crash_leaves_a_prefix.Goals as goal
 
 pub returns-clause-opening : goal.returns-clause-opening

@@ -1,4 +1,3 @@
-use Rattle.std.proofs.Common.{[]}
 use Rattle.store_core.proofs.Common.{last_store}
 use Rattle.store_core.proofs.Wiped.{shows_free}
 use Rattle.store_core.proofs.Zeroed.{stays_zeros, left_zeros}

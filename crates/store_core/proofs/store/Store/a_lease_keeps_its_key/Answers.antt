@@ -1,5 +1,4 @@
-use Rattle.std.proofs.Common.{sym}
-use Rattle.store_core.proofs.Common.{is_read}
+use Rattle.store_core.proofs.Common.{is_read, sym}
 use Rattle.store_core.proofs.store.Store.a_lease_keeps_its_key.Goals as goal
 
 pub returns : goal.returns

@@ -1,5 +1,4 @@
-use Rattle.std.proofs.Common.{refl, sym, ◌∙◌}
-use Rattle.store_core.proofs.Common.{HasAttributes, there_rows}
+use Rattle.store_core.proofs.Common.{HasAttributes, refl, sym, there_rows, ◌∙◌}
 use Rattle.store_core.proofs.Refusing.{ends_found, ends_unread}
 use Rattle.store_core.proofs.Missing.{is_missing_why}
 use Rattle.store_core.proofs.store.Store.attributes.Goals as goal

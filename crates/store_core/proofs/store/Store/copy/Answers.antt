@@ -1,6 +1,4 @@
-use Rattle.std.proofs.Common.{inl, Option, [], ap, arith, is_some, refl, subst, sym, ℕ, ◌++◌, ◌∙◌, ◌∷◌, ◌≡◌}
-use Rattle.store_core.proofs.Common.{Copy, Enters, Entry, IsEntry, IsOut, IsAboutToCreate, IsTold, IsUnkept, Key, OnStore, Plain, Store, buffer_of, bytes_of, course_of, durable_keys, last_counts, mark_unkept, new_id, ranked_on, recorded_copy, replay, slot_at}
-use Rattle.store_model.specs.Store as model
+use Rattle.store_core.proofs.Common.{[], ap, buffer_of, bytes_of, Copy, course_of, durable_keys, Enters, Entry, inl, IsAboutToCreate, IsEntry, IsOut, IsTold, IsUnkept, Key, last_counts, mark_unkept, Model, new_id, OnStore, Option, Plain, ranked_on, recorded_copy, refl, replay, slot_at, Store, subst, sym, ℕ, ◌++◌, ◌∙◌, ◌∷◌, ◌≡◌}
 use Rattle.store_core.proofs.Changing.{retold}
 use Rattle.store_core.proofs.Holding.{has_model, with_buffer}
 use Rattle.store_core.proofs.Refusing.{asks_for}
@@ -35,7 +33,7 @@ returns-in-Ok-made-clause-made g c = λ start opening h all less e s gains law b
     let entered = enters start opening h all less e (ready e caller source stated by call g.D.Disk g.A.Devices g.C.Admission mid start opening h all n slot key there has a decided buffer full) (since_later g.D.Disk g.A.Devices g.C.Admission old filled (last_counts opening.counts h) s.counts c.in-Ok.ensures.later c.in-Ok.ensures.devices) gains law (making e caller source stated by call g.D.Disk g.A.Devices g.C.Admission mid start opening h all n slot key there has a decided buffer full) turn in
     let tells = c.create-made.ensures.tells in (
       rebuffered g.D.Disk g.A.Devices g.C.Admission new c.wipe.new.self start opening (h ++ e ∷ []) less entered.0,
-      has_model g.D.Disk g.A.Devices g.C.Admission n (retold (g.D.Disk.contents mid.file.cells.disk) (g.D.Disk.contents c.create-made.new.self.file.cells.disk) start (h ++ e ∷ []) tells) (a, sym (decided_here e caller source stated by call g.D.Disk g.A.Devices g.C.Admission mid start opening h all n slot key there has a decided buffer full), entered.1 ∙ ap (λ (m : model.Store). new_id m caller a) (with_buffer g.D.Disk g.A.Devices g.C.Admission (IsTold (g.D.Disk.contents mid.file.cells.disk) start (h ++ e ∷ [])) mid buffer start opening h all inl n).1),
+      has_model g.D.Disk g.A.Devices g.C.Admission n (retold (g.D.Disk.contents mid.file.cells.disk) (g.D.Disk.contents c.create-made.new.self.file.cells.disk) start (h ++ e ∷ []) tells) (a, sym (decided_here e caller source stated by call g.D.Disk g.A.Devices g.C.Admission mid start opening h all n slot key there has a decided buffer full), entered.1 ∙ ap (λ (m : Model). new_id m caller a) (with_buffer g.D.Disk g.A.Devices g.C.Admission (IsTold (g.D.Disk.contents mid.file.cells.disk) start (h ++ e ∷ [])) mid buffer start opening h all inl n).1),
     )
 
 pub returns-in-Err-made-clause-uncopied : goal.returns-in-Err-made-clause-uncopied
@@ -160,51 +158,3 @@ returns-in-Err-decide_copy-clause-zeros g c = λ start opening h all s tells. (c
 
 pub returns-in-Err-clause-zeros : goal.returns-in-Err-clause-zeros
 returns-in-Err-clause-zeros g c = λ start opening h all s tells. (c.bring.ensures.keeps (durable_keys s.holds.model) (course_of start h).doubt (s.holds.file tells)).zeros
-
-pub returns-in-Err-clause-later : goal.returns-in-Err-clause-later
-returns-in-Err-clause-later g c = record { disk = c.bring.ensures.later; devices = (let e = ap g.A.Devices.faults c.bring.ensures.devices in omega arith) }
-
-pub returns-in-Err-clause-tells : goal.returns-in-Err-clause-tells
-returns-in-Err-clause-tells g c = ap is_some c.bring.ensures.same
-
-pub returns-in-Err-clause-knows : goal.returns-in-Err-clause-knows
-returns-in-Err-clause-knows g c = ap (λ d. is_some (g.A.Devices.keys d)) c.bring.ensures.devices
-
-pub returns-in-Err-clause-opened : goal.returns-in-Err-clause-opened
-returns-in-Err-clause-opened g c = c.bring.ensures.opened
-
-pub returns-in-Err-decide_copy-clause-later : goal.returns-in-Err-decide_copy-clause-later
-returns-in-Err-decide_copy-clause-later g c = record { disk = c.bring.ensures.later; devices = (let e = ap g.A.Devices.faults c.bring.ensures.devices in omega arith) }
-
-pub returns-in-Err-decide_copy-clause-tells : goal.returns-in-Err-decide_copy-clause-tells
-returns-in-Err-decide_copy-clause-tells g c = ap is_some c.bring.ensures.same
-
-pub returns-in-Err-decide_copy-clause-knows : goal.returns-in-Err-decide_copy-clause-knows
-returns-in-Err-decide_copy-clause-knows g c = ap (λ d. is_some (g.A.Devices.keys d)) c.bring.ensures.devices
-
-pub returns-in-Err-decide_copy-clause-opened : goal.returns-in-Err-decide_copy-clause-opened
-returns-in-Err-decide_copy-clause-opened g c = c.bring.ensures.opened
-
-pub returns-in-Ok-made-clause-later : goal.returns-in-Ok-made-clause-later
-returns-in-Ok-made-clause-later g c = record { disk = (let a = c.bring.ensures.later in let b = c.create-made.ensures.later.disk in omega arith); devices = (let e = ap g.A.Devices.faults c.bring.ensures.devices in let b = c.create-made.ensures.later.devices in omega arith) }
-
-pub returns-in-Ok-made-clause-tells : goal.returns-in-Ok-made-clause-tells
-returns-in-Ok-made-clause-tells g c = c.create-made.ensures.tells ∙ ap is_some c.bring.ensures.same
-
-pub returns-in-Ok-made-clause-knows : goal.returns-in-Ok-made-clause-knows
-returns-in-Ok-made-clause-knows g c = c.create-made.ensures.knows ∙ ap (λ d. is_some (g.A.Devices.keys d)) c.bring.ensures.devices
-
-pub returns-in-Ok-made-clause-opened : goal.returns-in-Ok-made-clause-opened
-returns-in-Ok-made-clause-opened g c = c.create-made.ensures.opened ∙ c.bring.ensures.opened
-
-pub returns-in-Err-made-clause-later : goal.returns-in-Err-made-clause-later
-returns-in-Err-made-clause-later g c = record { disk = (let a = c.bring.ensures.later in let b = c.create-made.ensures.later.disk in omega arith); devices = (let e = ap g.A.Devices.faults c.bring.ensures.devices in let b = c.create-made.ensures.later.devices in omega arith) }
-
-pub returns-in-Err-made-clause-tells : goal.returns-in-Err-made-clause-tells
-returns-in-Err-made-clause-tells g c = c.create-made.ensures.tells ∙ ap is_some c.bring.ensures.same
-
-pub returns-in-Err-made-clause-knows : goal.returns-in-Err-made-clause-knows
-returns-in-Err-made-clause-knows g c = c.create-made.ensures.knows ∙ ap (λ d. is_some (g.A.Devices.keys d)) c.bring.ensures.devices
-
-pub returns-in-Err-made-clause-opened : goal.returns-in-Err-made-clause-opened
-returns-in-Err-made-clause-opened g c = c.create-made.ensures.opened ∙ c.bring.ensures.opened

@@ -1,5 +1,4 @@
-use Rattle.std.proofs.Common.{Err, List, Some, ap, refl, subst, sym, ℕ, ◌+◌, ◌∙◌}
-use Rattle.store_core.proofs.Common.{IsKeyOf, IsPut, Leads, SlotHasKey, created, doubt_unmade, full_slot, new_id, new_key, stored}
+use Rattle.store_core.proofs.Common.{ap, created, doubt_unmade, Err, full_slot, IsKeyOf, IsPut, Leads, List, new_id, new_key, refl, SlotHasKey, Some, stored, subst, sym, ℕ, ◌+◌, ◌∙◌}
 use Rattle.persistent_keys.specs.declared.file.MakeFault.{MakeFault}
 use Rattle.persistent_keys.specs.declared.file.MakeFault.TheVariants.{Disk}
 use Rattle.store_core.proofs.MakesKept.{ready_key, ready_cells, ready_slots, ready_room, stated_puts, stated_new, stated_fills, ready_may, makes_kept, fails_kept}

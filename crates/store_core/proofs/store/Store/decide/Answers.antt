@@ -1,5 +1,4 @@
-use Rattle.std.proofs.Common.{Option, inl, refl, subst, sym}
-use Rattle.store_core.proofs.Common.{IsAmong, option_map, RecordsStated}
+use Rattle.store_core.proofs.Common.{inl, IsAmong, Option, option_map, RecordsStated, refl, subst, sym}
 use Rattle.store_core.proofs.store.Store.decide.Goals as goal
 
 pub is_alive-requires : goal.is_alive-requires

@@ -1,5 +1,4 @@
-use Rattle.std.proofs.Common.{ap, sym, ◌/◌, ◌∙◌}
-use Rattle.store_core.proofs.Common.{Attributes, recorded_of}
+use Rattle.store_core.proofs.Common.{ap, Attributes, recorded_of, sym, ◌/◌, ◌∙◌}
 use Rattle.store_core.proofs.Copied.{bytes_by_bits}
 use Rattle.store_core.proofs.store.Store.decide_copy.Goals as goal
 

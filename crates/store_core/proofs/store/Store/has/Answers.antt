@@ -1,18 +1,19 @@
-use Rattle.std.proofs.Common.{ap, arith, is_some}
+use Rattle.store_core.proofs.Common.{ap, arith, is_some}
 use Rattle.store_core.proofs.Kept.{key_of_cell, no_key}
+use Rattle.store_core.proofs.Destroyed.{low_lasts, none_unstated}
 use Rattle.store_core.proofs.store.Store.has.Goals as goal
 
-pub returns-in-Some : goal.returns-in-Some
-returns-in-Some g c = λ m all agrees directory. ap is_some (c.in-Some.ensures.key m all agrees).1
+pub returns-in-None : goal.returns-in-None
+returns-in-None g c = λ m all agrees directory sound.
+    ap is_some (none_unstated m c.args.id.0 sound (λ least most. let high = c.if-id-gt-LAST_STATED_ID.true in omega arith) (c.in-None.ensures.none m all agrees))
 
 pub returns-in-Some-find : goal.returns-in-Some-find
-returns-in-Some-find g c = λ m all agrees directory.
+returns-in-Some-find g c = λ m all agrees directory sound.
     let first = c.in-Some-find.ensures in
     let sized = directory.sized in
     let inside = first.within in
-    let key = key_of_cell c.args.self.now.file.cells.states.items m c.args.id.0 c.in-Some-find._cell directory (omega arith) first.here in
-    ap is_some key.1
+    ap is_some (key_of_cell c.args.self.now.file.cells.states.items m c.args.id.0 c.in-Some-find._cell directory (omega arith) first.here).1
 
-pub returns-in-None : goal.returns-in-None
-returns-in-None g c = λ m all agrees directory.
-    ap is_some (no_key c.args.self.now.file.cells.states.items m c.args.id.0 directory c.in-None.ensures (c.in_default.ensures.none m all agrees))
+pub returns-in-None-find : goal.returns-in-None-find
+returns-in-None-find g c = λ m all agrees directory sound.
+    ap is_some (no_key c.args.self.now.file.cells.states.items m c.args.id.0 directory c.in-None-find.ensures (low_lasts m c.args.id.0 sound (let low = c.if-id-gt-LAST_STATED_ID.false in omega arith)))

@@ -1,6 +1,4 @@
-use Rattle.std.proofs.Common.{IsTrue, Some, ap, arith, is_some, length, rules, refl, subst, sym, true, ℕ, ◌+◌, ◌∙◌, ◌≡◌}
-use Rattle.std.specs.FinMap as map
-use Rattle.store_core.proofs.Common.{Attributes, bytes_of, FitsUse, Gains, HasOpaque, is_opaque, is_opaque_key, IsLent, missing, permits_size, unless-err, unless-ok, use_refusal}
+use Rattle.store_core.proofs.Common.{ap, arith, Attributes, bytes_of, FitsUse, Gains, HasOpaque, is_opaque, is_opaque_key, is_some, IsLent, IsTrue, length, map_get, missing, permits_size, refl, rules, Some, subst, sym, true, unless-err, unless-ok, use_refusal, ℕ, ◌+◌, ◌∙◌, ◌≡◌}
 use Rattle.slot_table.specs.Lent as lent
 use Rattle.store_core.proofs.Lending.{has_bytes, sized}
 use Rattle.store_core.proofs.Refusing.{asks_for, ends_found, ends_refused, ends_unread, few_readers, use_plain}
@@ -63,7 +61,7 @@ returns-in-Err-check g c = record {
       let rows = use_refusal c.args.wanted in
       let refused = unless-err _ _ _ (sym (c.in-Err-check.ensures.refusal k.0 (sym k.2.attributes ∙ sym c.attributes.ensures))) in
       ends_refused g.D.Disk g.A.Devices g.C.Admission g.met.D.Disk.only_now c.args.self.now c.bring-brought.new.self start opening h all e c.args.id.0
-      rows _ (λ m. is_opaque_key (map.get m.keys c.args.id.0) ≡ true → HasOpaque g.D.Disk g.A.Devices g.C.Admission c.args.self.now c.args.id.0) (use_plain c.args.wanted (Some k.0) _ refused) is n.0 (ap rows k.1 ∙ refused)
+      rows _ (λ m. is_opaque_key (map_get m.keys c.args.id.0) ≡ true → HasOpaque g.D.Disk g.A.Devices g.C.Admission c.args.self.now c.args.id.0) (use_plain c.args.wanted (Some k.0) _ refused) is n.0 (ap rows k.1 ∙ refused)
       (λ opaque. c.in-Ok.ensures.element (ap is_opaque k.2.attributes ∙ (sym (ap is_opaque_key k.1) ∙ opaque))) turn;
   spare = c.requires.spare;
   wipes = c.bring-brought.ensures.wipes;

@@ -1,5 +1,4 @@
-use Rattle.std.proofs.Common.{Err, IsTrue, Some, ap, length, refl, subst, sym, ◌∙◌, ◌≡◌}
-use Rattle.store_core.proofs.Common.{FaultCounts, HoldsHandle, IsElementAnswered, Plain, Refused, Rose, algorithm_asked, counted, first_row, fits_type, has_element, is_opaque_key, key_rows, last_counts, mark_computed, model_call, unless-err, unless-ok}
+use Rattle.store_core.proofs.Common.{algorithm_asked, ap, counted, Err, FaultCounts, first_row, fits_type, has_element, HoldsHandle, is_opaque_key, IsElementAnswered, IsTrue, key_rows, last_counts, length, mark_computed, model_call, Plain, refl, Refused, Rose, Some, subst, sym, unless-err, unless-ok, ◌∙◌, ◌≡◌}
 use Rattle.store_core.proofs.ByElement.{answered, checked_rows, ends_computed, fault_of, has_slot, held_of, holds_type, keeps_keys, mark_may, type_fits, unused}
 use Rattle.store_core.proofs.Destroyed.{element_there}
 use Rattle.store_core.proofs.store.Store.opaque_call.Goals as goal

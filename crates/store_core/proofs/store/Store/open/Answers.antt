@@ -1,5 +1,4 @@
-use Rattle.std.proofs.Common.{ap, count_by, refl, subst, sym, ◌∙◌, ◌≤◌}
-use Rattle.store_core.proofs.Common.{IsClear, IsOpened, KeyFile, KeySlots, Lacks, is_open}
+use Rattle.store_core.proofs.Common.{ap, count_by, is_open, IsClear, IsOpened, KeyFile, KeySlots, Lacks, refl, subst, sym, ◌∙◌, ◌≤◌}
 use Rattle.store_core.proofs.Started.{IsNew, starts, exactly, stands, without_memory}
 use Rattle.store_core.proofs.store.Store.open.Goals as goal
 

@@ -1,43 +1,29 @@
-use Rattle.std.proofs.Common.{None, Some, refl, subst, sym, ◌≡◌}
-use Rattle.store_core.proofs.Common.{InvalidHandle, IsIdleOf, ends_none, there_rows}
-use Rattle.std.specs.FinMap as map
-use Rattle.store_model.specs.Store as model
+use Rattle.store_core.proofs.Common.{ap, arith, InvalidHandle, map_get, Model, None, refl, Some, subst, sym, there_rows, ◌≡◌}
 use Rattle.store_core.proofs.Changing.{counts_on}
-use Rattle.store_core.proofs.Kept.{is_there, is_missing}
+use Rattle.store_core.proofs.Kept.{key_of_cell, no_key}
 use Rattle.store_core.proofs.store.Store.purge.Goals as goal
 
-pub returns-then-not-has : goal.returns-then-not-has
-returns-then-not-has g c = record {
-  there = tt;
-  missing = (
-    refl,
-    λ start opening h all e s still is.
-        let m = s.holds.model in
-        let n = counts_on g.D.Disk g.A.Devices g.C.Admission g.met.D.Disk.only_now e s c.args.self.now.slots s.holds.slots still is in
-        (n.0, subst (λ (x : model.Store). there_rows (map.get x.keys c.args.id.0) ≡ Some InvalidHandle) (sym n.1) (is_missing (map.get m.keys c.args.id.0) (c.if-not-has.ensures m all s.holds.slots s.holds.directory))),
-  );
-  wiped = tt;
-  wipes = ends_none c.args.self.now.slots.table.slots (λ i s. IsIdleOf c.args.id.0 s);
-  emptied = tt;
-  file = refl;
-  devices = refl;
-  buffer = refl;
-  opened = refl;
-}
+pub returns-in-Some-clause-there : goal.returns-in-Some-clause-there
+returns-in-Some-clause-there g c = λ start opening h all e s still is.
+    let m = s.holds.model in
+    let n = counts_on g.D.Disk g.A.Devices g.C.Admission g.met.D.Disk.only_now e s c.purge.new.self (c.purge.ensures.stays m all s.holds.slots) still is in
+    (n.0, subst (λ (x : Model). there_rows (map_get x.keys c.args.id.0) ≡ None) (sym n.1) (ap there_rows (c.in-Some.ensures.key m all s.holds.slots).1))
 
-pub returns : goal.returns
-returns g c = record {
-  there = λ start opening h all e s still is.
-      let old = c.args.self.now in
+pub returns-in-Some-find-clause-there : goal.returns-in-Some-find-clause-there
+returns-in-Some-find-clause-there g c = λ start opening h all e s still is.
+    let n = counts_on g.D.Disk g.A.Devices g.C.Admission g.met.D.Disk.only_now e s c.args.self.now.slots s.holds.slots still is in
+    let first = c.in-Some-find.ensures in
+    let sized = s.holds.directory.sized in
+    let inside = first.within in
+    let key = key_of_cell c.args.self.now.file.cells.states.items s.holds.model c.args.id.0 c.in-Some-find._cell s.holds.directory (omega arith) first.here in
+    (n.0, subst (λ (x : Model). there_rows (map_get x.keys c.args.id.0) ≡ None) (sym n.1) (ap there_rows key.1))
+
+pub returns-in-None-clause-missing : goal.returns-in-None-clause-missing
+returns-in-None-clause-missing g c = (
+  refl,
+  λ start opening h all e s still is.
       let m = s.holds.model in
-      let n = counts_on g.D.Disk g.A.Devices g.C.Admission g.met.D.Disk.only_now e s c.purge.new.self (c.purge.ensures.stays m all s.holds.slots) still is in
-      (n.0, subst (λ (x : model.Store). there_rows (map.get x.keys c.args.id.0) ≡ None) (sym n.1) (is_there (map.get m.keys c.args.id.0) (c.if-not-has.ensures m all s.holds.slots s.holds.directory)));
-  missing = tt;
-  wiped = c.purge.ensures.wiped;
-  wipes = c.purge.ensures.wipes;
-  emptied = c.purge.ensures.emptied;
-  file = refl;
-  devices = refl;
-  buffer = refl;
-  opened = refl;
-}
+      let n = counts_on g.D.Disk g.A.Devices g.C.Admission g.met.D.Disk.only_now e s c.args.self.now.slots s.holds.slots still is in
+      let none = no_key c.args.self.now.file.cells.states.items m c.args.id.0 s.holds.directory c.in-None.ensures (c.in_default.ensures.none m all s.holds.slots) in
+      (n.0, subst (λ (x : Model). there_rows (map_get x.keys c.args.id.0) ≡ Some InvalidHandle) (sym n.1) (ap there_rows none)),
+)

@@ -1,5 +1,4 @@
-use Rattle.std.proofs.Common.{sym}
-use Rattle.store_core.proofs.Common.{readers_out}
+use Rattle.store_core.proofs.Common.{readers_out, sym}
 use Rattle.store_core.proofs.store.Store.readers_are_leases.Goals as goal
 
 pub returns : goal.returns

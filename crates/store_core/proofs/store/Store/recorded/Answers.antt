@@ -1,5 +1,4 @@
-use Rattle.std.proofs.Common.{None, Some, ap, sym, ◌∙◌}
-use Rattle.store_core.proofs.Common.{has_element}
+use Rattle.store_core.proofs.Common.{ap, has_element, None, Some, sym, ◌∙◌}
 use Rattle.store_core.proofs.Asked.{asks, by_room, unchecked, unruled}
 use Rattle.store_core.proofs.store.Store.recorded.Goals as goal
 

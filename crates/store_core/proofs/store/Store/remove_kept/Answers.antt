@@ -1,8 +1,6 @@
-use Rattle.std.proofs.Common.{None, arith, refl, subst, sym, ◌<◌}
-use Rattle.store_core.proofs.Common.{Free, Leads, Plain, Rose, Storage, Writing, cell_state}
+use Rattle.store_core.proofs.Common.{arith, cell_state, Free, Leads, map_get, None, Plain, refl, Rose, Storage, subst, sym, Writing, ◌<◌}
 use Rattle.key_cells.proofs.Counts.{has_id_open}
 use Rattle.key_cells.proofs.Free.{open_not_free}
-use Rattle.std.specs.FinMap as map
 use Rattle.store_core.proofs.Kept.{key_of_cell, is_persistent}
 use Rattle.store_core.proofs.Destroyed.{fewer_kept, rows_there, still_doubted, undestroyed_doubt}
 use Rattle.store_core.proofs.Sure.{set_sure}
@@ -49,7 +47,7 @@ returns-in-Ok-clause-destroyed g c = λ start opening h all e s call is.
             settles = λ own doubt none. set_sure c.args.self.now.file.cells.states.items c.destroy-closed.new.self.cells.states.items c.args.cell Free refl ensures.gone;
           })
           c.destroy.ensures.forgets tt (λ service persistent. tt) is,
-      rows_there c.args.id.0 (map.get m.keys c.args.id.0) key.0 key.1,
+      rows_there c.args.id.0 (map_get m.keys c.args.id.0) key.0 key.1,
     )
 
 pub returns-in-Err-clause-failed : goal.returns-in-Err-clause-failed
@@ -76,7 +74,7 @@ returns-in-Err-clause-failed g c = λ start opening h all e s call is.
             settles = λ own doubt none. absurd (still_doubted closed own doubt none);
           })
           c.destroy.ensures.forgets (subst (Rose (g.D.Disk.faults old.disk)) (sym is.disk_faults) ensures.cause.failed) (λ service persistent. persistent) is,
-      is_persistent (map.get m.keys c.args.id.0) key.0 key.1 key.2,
+      is_persistent (map_get m.keys c.args.id.0) key.0 key.1 key.2,
     )
 
 pub returns-in-Ok-clause-zeros : goal.returns-in-Ok-clause-zeros

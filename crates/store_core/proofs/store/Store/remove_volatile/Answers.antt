@@ -1,23 +1,14 @@
-use Rattle.std.proofs.Common.{ap, arith, subst, sym, ℕ, ◌||◌, ◌∙◌}
-use Rattle.store_core.proofs.Common.{asks_device, Hardware, has_element, HoldsHandle, is_opaque, is_opaque_key, Plain, Rose, slot_at, ⊤}
-use Rattle.std.specs.FinMap as map
-use Rattle.store_core.proofs.Destroyed.{high_here, of_creator, fewer_live, element_there, holds_some, rows_there}
+use Rattle.store_core.proofs.Common.{ap, arith, asks_device, Hardware, has_element, HoldsHandle, is_opaque, is_opaque_key, map_get, Plain, Rose, slot_at, subst, sym, ℕ, ⊤, ◌||◌, ◌∙◌}
+use Rattle.store_core.proofs.Destroyed.{of_creator, fewer_live, element_there, holds_some, rows_there}
 use Rattle.store_core.proofs.DestroyTurn.{destroys_volatile, slot_key}
 use Rattle.store_core.proofs.Forgotten.{slot_forgotten}
 use Rattle.store_core.proofs.store.Store.remove_volatile.Goals as goal
-
-pub caller_of-caller-requires : goal.caller_of-caller-requires
-caller_of-caller-requires g c =
-    let s = c.requires.stands.4.holds in
-    let old = c.args.self.now in
-    let k = slot_key old.file.cells.states.items old.slots.table.slots s.model c.requires.stands.3 c.args.id.0 c.args.slot s.directory c.requires.absent s.slots c.requires.within c.requires.there in
-    high_here s.model c.args.id.0 k.key k.there s.sound k.volatile
 
 pub forget-forgotten-requires-clause-element : goal.forget-forgotten-requires-clause-element
 forget-forgotten-requires-clause-element g c κs within = λ opaque.
     let s = c.requires.stands.4.holds in
     let old = c.args.self.now in
-    let k = slot_key old.file.cells.states.items old.slots.table.slots s.model c.requires.stands.3 c.args.id.0 c.args.slot s.directory c.requires.absent s.slots c.requires.within c.requires.there in
+    let k = slot_key old.slots.table.slots s.model c.requires.stands.3 c.args.id.0 c.args.slot s.sound c.requires.high s.slots c.requires.within c.requires.there in
     ap has_element (sym s.locations_are) ∙ element_there s.model c.args.id.0 k.key k.there s.sound (ap is_opaque (sym k.has.attributes) ∙ opaque)
 
 pub forget-forgotten-requires-clause-held : goal.forget-forgotten-requires-clause-held
@@ -25,14 +16,14 @@ forget-forgotten-requires-clause-held g c κs within = λ opaque.
     let s = c.requires.stands.4.holds in
     let old = c.args.self.now in
     let held = g.A.Devices.keys old.devices in
-    let k = slot_key old.file.cells.states.items old.slots.table.slots s.model c.requires.stands.3 c.args.id.0 c.args.slot s.directory c.requires.absent s.slots c.requires.within c.requires.there in
+    let k = slot_key old.slots.table.slots s.model c.requires.stands.3 c.args.id.0 c.args.slot s.sound c.requires.high s.slots c.requires.within c.requires.there in
     subst (λ (n : ℕ). HoldsHandle held n (λ key. ⊤)) (sym k.has.number) (holds_some held k.key.number _ (s.device.there c.args.id.0 k.key k.there (ap is_opaque (sym k.has.attributes) ∙ opaque)))
 
 pub bounds-self-caller : goal.bounds-self-caller
 bounds-self-caller g c =
     let s = c.requires.stands.4.holds in
     let old = c.args.self.now in
-    let k = slot_key old.file.cells.states.items old.slots.table.slots s.model c.requires.stands.3 c.args.id.0 c.args.slot s.directory c.requires.absent s.slots c.requires.within c.requires.there in
+    let k = slot_key old.slots.table.slots s.model c.requires.stands.3 c.args.id.0 c.args.slot s.sound c.requires.high s.slots c.requires.within c.requires.there in
     let last = of_creator s.model c.args.id.0 k.key k.there s.sound k.volatile c.caller_of-caller.result c.caller_of-caller.ensures in
     omega arith
 
@@ -41,7 +32,7 @@ overflow_sub-self g c =
     let s = c.requires.stands.4.holds in
     let old = c.args.self.now in
     let caller = c.caller_of-caller.result in
-    let k = slot_key old.file.cells.states.items old.slots.table.slots s.model c.requires.stands.3 c.args.id.0 c.args.slot s.directory c.requires.absent s.slots c.requires.within c.requires.there in
+    let k = slot_key old.slots.table.slots s.model c.requires.stands.3 c.args.id.0 c.args.slot s.sound c.requires.high s.slots c.requires.within c.requires.there in
     let last = of_creator s.model c.args.id.0 k.key k.there s.sound k.volatile caller c.caller_of-caller.ensures in
     let fewer = fewer_live s.model c.args.id.0 k.key k.there s.sound k.volatile caller c.caller_of-caller.ensures in
     let was = s.live caller last in
@@ -51,7 +42,7 @@ pub bounds-self-caller-2 : goal.bounds-self-caller-2
 bounds-self-caller-2 g c =
     let s = c.requires.stands.4.holds in
     let old = c.args.self.now in
-    let k = slot_key old.file.cells.states.items old.slots.table.slots s.model c.requires.stands.3 c.args.id.0 c.args.slot s.directory c.requires.absent s.slots c.requires.within c.requires.there in
+    let k = slot_key old.slots.table.slots s.model c.requires.stands.3 c.args.id.0 c.args.slot s.sound c.requires.high s.slots c.requires.within c.requires.there in
     let last = of_creator s.model c.args.id.0 k.key k.there s.sound k.volatile c.caller_of-caller.result c.caller_of-caller.ensures in
     omega arith
 
@@ -59,17 +50,17 @@ pub returns-in-Ok-clause-destroyed : goal.returns-in-Ok-clause-destroyed
 returns-in-Ok-clause-destroyed g c = λ start opening h all e s call is.
     let old = c.args.self.now in
     let m = s.holds.model in
-    let k = slot_key old.file.cells.states.items old.slots.table.slots m all c.args.id.0 c.args.slot s.holds.directory c.requires.absent s.holds.slots c.requires.within c.requires.there in
+    let k = slot_key old.slots.table.slots m all c.args.id.0 c.args.slot s.holds.sound c.requires.high s.holds.slots c.requires.within c.requires.there in
     let ensures = c.in-Ok.ensures in (
       destroys_volatile g.D.Disk g.A.Devices g.C.Admission g.met.D.Disk.only_now old start opening h all e c.args.id.0 call c.forget-forgotten.new.devices c.destroy.new.self c.caller_of-caller.result Plain (slot_at old.slots.table.slots c.args.slot) s k c.destroy.ensures.forgets c.caller_of-caller.ensures
           ensures.locations ensures.keys tt (λ service same. tt) is,
-      rows_there c.args.id.0 (map.get m.keys c.args.id.0) k.key k.there,
+      rows_there c.args.id.0 (map_get m.keys c.args.id.0) k.key k.there,
     )
 
 pub returns-in-Err-clause-failed : goal.returns-in-Err-clause-failed
 returns-in-Err-clause-failed g c = λ start opening h all e s call is.
     let old = c.args.self.now in
-    let k = slot_key old.file.cells.states.items old.slots.table.slots s.holds.model all c.args.id.0 c.args.slot s.holds.directory c.requires.absent s.holds.slots c.requires.within c.requires.there in
+    let k = slot_key old.slots.table.slots s.holds.model all c.args.id.0 c.args.slot s.holds.sound c.requires.high s.holds.slots c.requires.within c.requires.there in
     let ensures = c.in-Err.ensures in
     let opaque = ap is_opaque_key k.there ∙ (ap is_opaque (sym k.has.attributes) ∙ ensures.opaque) in (
       destroys_volatile g.D.Disk g.A.Devices g.C.Admission g.met.D.Disk.only_now old start opening h all e c.args.id.0 call c.forget-forgotten.new.devices c.destroy.new.self c.caller_of-caller.result Hardware (slot_at old.slots.table.slots c.args.slot) s k c.destroy.ensures.forgets c.caller_of-caller.ensures

@@ -1,6 +1,4 @@
-use Rattle.std.proofs.Common.{refl, subst, sym}
-use Rattle.store_core.proofs.Common.{HasNumber, false≢true}
-use Rattle.store_model.specs.Store as model
+use Rattle.store_core.proofs.Common.{false≢true, HasNumber, Model, refl, subst, sym}
 use Rattle.store_core.proofs.Changing.{counts_on}
 use Rattle.store_core.proofs.store.Store.step_operation.Goals as goal
 
@@ -18,9 +16,9 @@ returns-else-is_alive-clause-adds g c = λ start opening h all e s still is.
 pub returns-then-is_alive-clause-alive : goal.returns-then-is_alive-clause-alive
 returns-then-is_alive-clause-alive g c = λ start opening h all e s out still is.
     let n = counts_on g.D.Disk g.A.Devices g.C.Admission g.met.D.Disk.only_now e s c.args.self.now.slots s.holds.slots still is in
-    (n.0, subst (λ (m : model.Store). HasNumber m c.args.lease.now.creation) (sym n.1) ((c.if-is_alive.ensures s.holds.model all s.holds.slots out).0 refl))
+    (n.0, subst (λ (m : Model). HasNumber m c.args.lease.now.creation) (sym n.1) ((c.if-is_alive.ensures s.holds.model all s.holds.slots out).0 refl))
 
 pub returns-else-is_alive-clause-gone : goal.returns-else-is_alive-clause-gone
 returns-else-is_alive-clause-gone g c = λ start opening h all e s out still is.
     let n = counts_on g.D.Disk g.A.Devices g.C.Admission g.met.D.Disk.only_now e s c.args.self.now.slots s.holds.slots still is in
-    (n.0, subst (λ (m : model.Store). HasNumber m c.args.lease.now.creation → ⊥) (sym n.1) (λ has. false≢true ((c.if-is_alive.ensures s.holds.model all s.holds.slots out).1 has)))
+    (n.0, subst (λ (m : Model). HasNumber m c.args.lease.now.creation → ⊥) (sym n.1) (λ has. false≢true ((c.if-is_alive.ensures s.holds.model all s.holds.slots out).1 has)))

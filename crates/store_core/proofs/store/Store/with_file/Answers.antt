@@ -1,5 +1,4 @@
-use Rattle.std.proofs.Common.{arith, refl}
-use Rattle.store_core.proofs.Common.{count_by-le-length, is_open}
+use Rattle.store_core.proofs.Common.{arith, count_by-le-length, is_open, refl}
 use Rattle.store_core.proofs.store.Store.with_file.Goals as goal
 
 pub overflow_cast-result : goal.overflow_cast-result
