@@ -1,11 +1,7 @@
 -- A payload under the key stream, in pieces.
-use Rattle.aead_streams.proofs.Common.{IsAt, List, Whole, aes_encrypt, ap, ap₂, arith, ccm_counter_block, ccm_text, length, length-append, number_block, sym, text_xor, ℕ, ◌++◌, ◌+◌, ◌∙◌, ◌≡◌, ◌≤◌}
+use Rattle.aead_streams.proofs.Common.{CountsFor, IsAt, KeyStream, List, Whole, aes_encrypt, ap, ap₂, arith, ccm_counter_block, ccm_text, length, length-append, number_block, sym, text_xor, ℕ, ◌++◌, ◌+◌, ◌∙◌, ◌≡◌, ◌≤◌}
 use Rattle.aead_ccm.specs.Lengths.{IsNonceLength, IsPayloadLength}
-use Rattle.aead_streams.specs.CcmStates.{CountsFor}
-use Rattle.aead_streams.specs.declared.key_stream.KeyStream.{KeyStream}
-use Rattle.aead_streams.proofs.StreamLaws.{text_xor-append, length-text_xor}
-use Rattle.aead_streams.proofs.ModeStreams.{aes_keeps_length}
-use Rattle.aead_streams.proofs.CcmStreams.{ccm_is_from}
+use Rattle.aead_streams.proofs.{StreamLaws.text_xor-append, StreamLaws.length-text_xor, ModeStreams.aes_keeps_length, CcmStreams.ccm_is_from}
 
 -- the next piece
 pub piece_counted : (key nonce before piece out : List ℕ) (start p : ℕ) → IsNonceLength (length nonce) → IsPayloadLength (length nonce) p → number_block start ≡ ccm_counter_block nonce 1

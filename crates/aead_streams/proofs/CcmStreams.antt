@@ -1,8 +1,7 @@
 -- The stream of CCM is a key stream, as far as its counters go.
 use Rattle.aead_streams.proofs.Common.{KeepsLength, List, Whole, ap, ap₂, arith, block_count, bytes_high_first, ccm_counter_block, ccm_stream, ccm_text, div-add-mod', div-mul-add, drop, drop_at, in_bytes, length, length-bytes_high_first, mod-eq_of_lt, mod-mul-add, number_block, refl, stream_block, sym, take, take_at, text_xor, ℕ, ◌%◌, ◌*◌, ◌++◌, ◌+◌, ◌-◌, ◌/◌, ◌<◌, ◌^◌, ◌∙◌, ◌∷◌, ◌≡◌, ◌≤◌}
 use Rattle.aead_ccm.proofs.KeyStream.{blocks_fit}
-use Rattle.aead_streams.proofs.HighFirst.{high_and_low, same_bytes, same_remainder}
-use Rattle.aead_streams.proofs.ModeStreams.{text_is}
+use Rattle.aead_streams.proofs.{HighFirst.high_and_low, HighFirst.same_bytes, HighFirst.same_remainder, ModeStreams.text_is}
 
 -- a number in q bytes, which are at most 8
 in_bytes_is : (q x : ℕ) → q ≤ 8 → in_bytes q x ≡ bytes_high_first q x

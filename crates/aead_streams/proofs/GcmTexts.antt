@@ -1,8 +1,7 @@
 -- The text and the tag of GCM, part by part.
 use Rattle.aead_streams.proofs.Common.{List, Low32, aes_encrypt, ap, ap₂, arith, bit_xor, block_of_xor, block_product, gcm_tag, gcm_text, ghash_from, ghash_of, hash_subkey, in_turn, increased, initial_counter_block, length, length_block, number_block, numbers_of, refl, sym, take, text_xor, xor_bytes, ℕ, ◌++◌, ◌+◌, ◌∙◌, ◌≡◌}
 use Rattle.aead_gcm.proofs.Tags.{tag_is}
-use Rattle.aead_streams.proofs.ModeStreams.{aes_keeps_length, gcm_is}
-use Rattle.aead_streams.proofs.StreamLaws.{text_xor-append, length-text_xor}
+use Rattle.aead_streams.proofs.{ModeStreams.aes_keeps_length, ModeStreams.gcm_is, StreamLaws.text_xor-append, StreamLaws.length-text_xor}
 use Rattle.aead_streams.specs.GcmStates.{HoldsGcmText}
 use Rattle.aead_streams.specs.declared.gcm_state.GcmState.{GcmState}
 

@@ -1,8 +1,5 @@
 -- A key stream's place, one block and one piece on.
-use Rattle.aead_streams.proofs.Common.{CounterWidth, IsAt, List, Low32, Whole, ap, ap₂, arith, byte_of_stream, counter_at, drop, drop-drop, drop_at, get_or-drop, increased, length, length-drop, length-take, number_block, slice_index, stream_block, sym, take, take_at, text_xor, xor_bytes, ℕ, ◌%◌, ◌++◌, ◌+◌, ◌-◌, ◌/◌, ◌<◌, ◌^◌, ◌∙◌, ◌≡◌, ◌≤◌}
-use Rattle.std.proofs.Common.{append_assoc}
-use Rattle.std.proofs.Math.Seq.{take-add}
-use Rattle.aead_streams.specs.declared.key_stream.KeyStream.{KeyStream}
+use Rattle.aead_streams.proofs.Common.{CounterWidth, IsAt, KeyStream, List, Low32, Whole, ap, append_assoc, ap₂, arith, byte_of_stream, counter_at, drop, drop-drop, drop_at, get_or-drop, increased, length, length-drop, length-take, number_block, rules, slice_index, stream_block, sym, take, take-add, take_at, text_xor, xor_bytes, ℕ, ◌%◌, ◌++◌, ◌+◌, ◌-◌, ◌/◌, ◌<◌, ◌^◌, ◌∙◌, ◌≡◌, ◌≤◌}
 use Rattle.aead_streams.proofs.StreamLaws.{by_byte, text_xor-append, length-text_xor}
 
 start_counted : (width : CounterWidth) (start : ℕ) → start < 2 ^ 128 → start ≡ counter_at width start 0
@@ -50,14 +47,7 @@ piece_is s e width start n piece long lt fits h =
 
 pub moved : (s t : KeyStream) (e : List ℕ → List ℕ) (width : CounterWidth) (start n k : ℕ) → s.used < 16 → IsAt s e width start n → t.width ≡ s.width → t.counter ≡ s.counter → t.block ≡ s.block
     → t.used ≡ s.used + k → s.used + k ≤ 16 → IsAt t e width start (n + k)
-moved s t e width start n k lt h ew ec eb eu le = record {
-  blocks = h.blocks;
-  counts = ew ∙ h.counts;
-  counter = ec ∙ h.counter;
-  place = omega (arith, h.place);
-  used = omega arith;
-  block = λ _. eb ∙ h.block lt;
-}
+moved s t e width start n k lt h ew ec eb eu le = search rules
 
 -- a block of a text, and the next block of the stream, of which none is kept
 pub block_is : (s : KeyStream) (e : List ℕ → List ℕ) (width : CounterWidth) (start n : ℕ) (block : List ℕ) → ((b : List ℕ) → length (e b) ≡ 16) → s.used ≡ 16 → length block ≡ 16 → IsAt s e width start n

@@ -1,19 +1,11 @@
 -- The steps of a hash of a text in pieces.
-use Rattle.aead_streams.proofs.Common.{HasTaken, List, [], ap, append-nil, ap₂, arith, bit_xor, block_count, block_number, block_product, blocks, cases_lt, drop, drop-append-le, drop-drop, drop_all, ghash_from, inl, inr, length, length-append, length-drop, length-take, min, numbers_of, refl, rest_from, subst, sym, take, take-append-drop, take_all, ℕ, ◌*◌, ◌++◌, ◌+◌, ◌-◌, ◌/◌, ◌<◌, ◌∙◌, ◌∷◌, ◌≡◌, ◌≤◌, ◌⊎◌}
-use Rattle.std.proofs.Common.{append_assoc}
+use Rattle.aead_streams.proofs.Common.{HasTaken, List, [], ap, append-nil, append_assoc, ap₂, arith, bit_xor, block_count, block_number, block_product, blocks, cases_lt, drop, drop-append-le, drop-drop, drop_all, ghash_from, inl, inr, length, length-append, length-drop, length-take, min, numbers_of, refl, rest_from, rules, subst, sym, take, take-append-drop, take_all, ℕ, ◌*◌, ◌++◌, ◌+◌, ◌-◌, ◌/◌, ◌<◌, ◌∙◌, ◌∷◌, ◌≡◌, ◌≤◌, ◌⊎◌}
 use Rattle.aead_streams.specs.declared.text_hash.TextHash.{TextHash}
 use Rattle.aead_streams.proofs.HashSteps.{rest-append, rest_split, one_block}
 
 pub started : (s : TextHash) (h : ℕ) → s.ghash ≡ (h, 0) → s.buffer ≡ [] → HasTaken s h 0 []
 unfolding ghash_from blocks
-started s h is_ghash empty = record {
-  count = 0;
-  key = ap (λ (p : ℕ × ℕ). p.0) is_ghash;
-  value = ap (λ (p : ℕ × ℕ). p.1) is_ghash;
-  place = omega arith;
-  left = empty;
-  short = omega (arith, ap length empty);
-}
+started s h is_ghash empty = search rules
 
 -- a piece that fills no block is put into the buffer
 pub put_more : (s t : TextHash) (h y : ℕ) (text piece : List ℕ) → t.ghash ≡ s.ghash → t.buffer ≡ s.buffer ++ piece → length t.buffer < 16

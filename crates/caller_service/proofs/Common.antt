@@ -1,14 +1,10 @@
 -- What several proofs of this crate cite of its words, and of other crates'.
-pub use Rattle.caller_service.specs.Closing.{IsClosedOver, WasRetired, WereRetired}
-pub use Rattle.caller_service.specs.Allotments.{IsAllotment}
-pub use Rattle.caller_service.specs.Staff.{IsNewCaller}
-pub use Rattle.callers.specs.Handles.{AreIdle}
-pub use Rattle.callers.specs.Ready.{IsReady}
-pub use Rattle.callers.specs.Retired.{IsRetired, MakesNoCall}
+pub use Rattle.caller_service.specs.{Closing.IsClosedOver, Closing.WasRetired, Closing.WereRetired, Allotments.IsAllotment, Staff.IsNewCaller}
+pub use Rattle.callers.specs.Prelude.{AreIdle, IsReady, IsRetired, MakesNoCall}
 pub use Rattle.callers.specs.declared.caller.Caller.{Caller}
 pub use Rattle.locked_store.specs.Prelude.{IsClosed, World, caller_of, world, world_of}
-pub use Rattle.operation_handles.specs.Handles.{IsOperation}
-pub use Rattle.operation_handles.specs.States.{AreInactive}
+pub use Rattle.operation_handles.specs.{Handles.IsOperation, States.AreInactive}
+pub use Rattle.std.proofs.Common.{All, IfSome, List, None, Option, Some, [], ap, append_assoc, arith, get_or, get_or-set_other, get_or-set_same, inl, inr, length, length-append, length-set, map, option_to_list, refl, reverse, set, subst, sym, vec_capacity, vec_len, ℕ, ◌++◌, ◌+◌, ◌<◌, ◌∙◌, ◌∷◌, ◌≡◌, ◌≤◌}
 pub use Rattle.std.proofs.lemmas.List.{append-nil, get_or_append_left, get_or_default, get_or_push, length_push, map-append, reverse-append}
 pub use Rattle.std.proofs.lemmas.List.Elements.{All-cons, All-nil, All-pop, All-push}
 pub use Rattle.store_model.specs.Prelude.{Entry, Inactive}

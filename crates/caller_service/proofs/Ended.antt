@@ -1,6 +1,5 @@
 -- What is known of callers once a service is closed, from what is known of those that were retired.
-use Rattle.std.proofs.Common.{All, List, Some, [], ap, arith, get_or, get_or-set_other, get_or-set_same, inl, inr, length, length-append, length-set, map, refl, reverse, set, subst, sym, ℕ, ◌++◌, ◌+◌, ◌<◌, ◌∙◌, ◌∷◌, ◌≡◌, ◌≤◌}
-use Rattle.caller_service.proofs.Common.{account_of, All-cons, All-nil, All-pop, Caller, caller_of, calls_by, entries_of, Entry, get_or_append_left, get_or_push, IsClosed, IsClosedOver, IsNewCaller, IsReady, map-append, reverse-append, StartsWith, WasRetired, WereRetired, World}
+use Rattle.caller_service.proofs.Common.{All, All-cons, All-nil, All-pop, Caller, Entry, IsClosed, IsClosedOver, IsNewCaller, IsReady, List, Some, StartsWith, WasRetired, WereRetired, World, [], account_of, ap, arith, caller_of, calls_by, entries_of, get_or, get_or-set_other, get_or-set_same, get_or_append_left, get_or_push, inl, inr, length, length-append, length-set, map, map-append, refl, reverse, reverse-append, set, subst, sym, ℕ, ◌++◌, ◌+◌, ◌<◌, ◌∙◌, ◌∷◌, ◌≡◌, ◌≤◌}
 use Rattle.std.proofs.lemmas.Bool.Decides.{eqb_tells}
 use Rattle.turn_history.specs.declared.pass.Account.{Account}
 use Rattle.turn_history.proofs.Lists.{entries-append}

@@ -1,13 +1,9 @@
 -- Whether the key of a handle's operation is still there, by what a turn says of the lease's number.
-use Rattle.std.proofs.Common.{Bool, subst, Err, inl, inr, ◌⊎◌, List, None, Ok, OnErr, OnOk, Option, Result, Some, [], ap, arith, false, get_or, refl, sym, true, ℕ, ⊎_elim, ◌++◌, ◌-◌, ◌<◌, ◌∙◌, ◌∷◌, ◌≡◌, ◌≤◌}
-use Rattle.callers.proofs.Common.{Active, Caller, counted, DecidesAfter, Entry, HandleOperation, HasNumber, held_with, Inactive, InError, is_active, is_alive, is_ok, IsAsked, IsCalled, IsOperation, IsRanked, IsReady, key_of_operation, KeyCreation, known_more, KnowsAlive, KnowsBefore, KnowsTold, leaves_shared, LeavesAllKeys, may_change_keys, OnHandle, OnStore, Operation, operation_at, OperationHandle, option_map, outcome_of, Plain, plain_step, Reading, rekeyed, replay, Request, Service, Status, Success, Work, World}
+use Rattle.callers.proofs.Common.{Active, Bool, Caller, DecidesAfter, Entry, Err, HandleOperation, HasNumber, InError, Inactive, IsAsked, IsCalled, IsOperation, IsRanked, IsReady, KeyCreation, KnowsAlive, KnowsBefore, KnowsTold, LeavesAllKeys, List, None, Ok, OnErr, OnHandle, OnOk, OnStore, Operation, OperationHandle, Option, Plain, Reading, Request, Result, Service, Some, Status, Success, Work, World, [], ap, arith, counted, false, get_or, held_with, inl, inr, is_active, is_alive, is_ok, key_of_operation, known_more, leaves_shared, may_change_keys, operation_at, option_map, outcome_of, plain_step, refl, rekeyed, replay, subst, sym, true, ℕ, ⊎_elim, ◌++◌, ◌-◌, ◌<◌, ◌∙◌, ◌∷◌, ◌≡◌, ◌≤◌, ◌⊎◌}
 use Rattle.store_model.specs.Store as model
 use Rattle.store_model.proofs.LeftAll.{leaves_all}
 use Rattle.operation_handles.specs.Families.{embed_of}
-use Rattle.callers.proofs.Journeys.{called, told_front}
-use Rattle.callers.proofs.Readying.{outcome_is}
-use Rattle.callers.proofs.Rekeying.{LivesBy, chosen, no_test}
-use Rattle.callers.proofs.Supposed.{by_after, by_none, standing, supposed}
+use Rattle.callers.proofs.{Journeys.called, Journeys.told_front, Readying.outcome_is, Rekeying.LivesBy, Rekeying.chosen, Rekeying.no_test, Supposed.by_after, Supposed.by_none, Supposed.standing, Supposed.supposed}
 
 -- THE KEY OF A CELL
 

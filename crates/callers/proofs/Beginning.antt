@@ -1,14 +1,9 @@
 -- A caller after a setup.
-use Rattle.std.proofs.Common.{Err, List, None, Ok, Result, ap, arith, cond, count_by, false, get_or, length, not, refl, subst, sym, true, ℕ, ◌+◌, ◌-◌, ◌<◌, ◌^◌, ◌∙◌, ◌∷◌, ◌≡◌, ◌≤◌}
-use Rattle.callers.proofs.Common.{After, AnswersReply, applied, AreOperations, ArePairs, buffer_after, busy, Caller, DecidesAfter, entries_of, Entry, failure_marked, FaultMark, HandleOperation, Held, HoldsLease, id_read, Inactive, is_inactive, is_ok, IsAnswered, IsAt, IsCalled, IsChanged, IsEntered, IsLent, IsOperation, IsReady, IsRefused, Keyed, KeyedSetup, Keyless, KeylessSetup, KeyUse, known_more, known_told, KnowsBefore, lease_pair, leases_of, Legal, mark_of, may_change_keys, model_setup, OnHandle, operation_at, operation_of, OperationHandle, outcome_of, Output, Pairs, Plain, plain_reply, Reading, ReadsKey, refusal_without_key, replay, Request, Served, Service, set-get_or, set_up_by, set_up_with_key, set_up_without_key, Setup, setups, Status, stays, TellsFailure, use_refusal, used_for, with_operation_at, work_without_key, World}
+use Rattle.callers.proofs.Common.{After, AnswersReply, AreOperations, ArePairs, Caller, DecidesAfter, Entry, Err, FaultMark, HandleOperation, Held, HoldsLease, Inactive, IsAnswered, IsAt, IsCalled, IsChanged, IsEntered, IsLent, IsOperation, IsReady, IsRefused, KeyUse, Keyed, KeyedSetup, Keyless, KeylessSetup, KnowsBefore, Legal, List, None, Ok, OnHandle, OperationHandle, Output, Pairs, Plain, Reading, ReadsKey, Request, Result, Served, Service, Setup, Status, TellsFailure, World, ap, applied, arith, buffer_after, busy, cond, count_by, entries_of, failure_marked, false, get_or, id_read, is_inactive, is_ok, known_more, known_told, lease_pair, leases_of, length, mark_of, may_change_keys, model_setup, not, operation_at, operation_of, outcome_of, plain_reply, refl, refusal_without_key, replay, set-get_or, set_up_by, set_up_with_key, set_up_without_key, setups, stays, subst, sym, true, use_refusal, used_for, with_operation_at, work_without_key, ℕ, ◌+◌, ◌-◌, ◌<◌, ◌^◌, ◌∙◌, ◌∷◌, ◌≡◌, ◌≤◌}
 use Rattle.psa_status.specs.declared.Status.TheVariants as status
 use Rattle.service_calls.specs.declared.output.Output.TheVariants as output
-use Rattle.callers.proofs.HandleLists.{busy_put, cell_at, few, once, tally-cons}
-use Rattle.callers.proofs.Failing.{answers_plain, set_up_plainly}
-use Rattle.callers.proofs.Journeys.{called}
-use Rattle.callers.proofs.Looking.{AreSpares, same_spares}
-use Rattle.callers.proofs.Readying.{applied_answered, applied_there, outcome_is, own_there, ready}
-use Rattle.callers.proofs.Supposed.{by_after, by_none, quiet_leaves, standing}
+use Rattle.callers.proofs.{HandleLists.busy_put, HandleLists.cell_at, HandleLists.few, HandleLists.once, HandleLists.tally-cons, Failing.answers_plain, Failing.set_up_plainly, Journeys.called, Looking.AreSpares, Looking.same_spares}
+use Rattle.callers.proofs.{Readying.applied_answered, Readying.applied_there, Readying.outcome_is, Readying.own_there, Readying.ready, Supposed.by_after, Supposed.by_none, Supposed.quiet_leaves, Supposed.standing}
 use Rattle.callers.proofs.SettingUp.{begun_lent, counts, draws_none, quiet, reads, set_up_lent, set_up_refused, set_up_twice, still}
 
 pub waits_by : (operations : List HandleOperation) (handle : ℕ) (operation : HandleOperation) (more : ℕ) → handle ≤ 4 → 1 ≤ handle → length operations ≡ 4 → operation_at operations handle ≡ Inactive → once (not (is_inactive operation)) ≤ more →

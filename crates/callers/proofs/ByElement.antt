@@ -1,11 +1,9 @@
 -- What the one-thread service makes of a call that the secure element has computed, refused or failed at.
-use Rattle.std.proofs.Common.{Bool, Err, List, MatchOption, None, Ok, Option, Result, Some, ap, arith, false, if◌then◌else◌, inl, inr, is_some, length, refl, subst, sym, true, ℕ, ◌&&◌, ◌++◌, ◌+◌, ◌∙◌, ◌≡◌, ◌≤◌, ◌⊎◌}
-use Rattle.callers.proofs.Common.{all_rows, AnswersCall, AnswersReply, asks_device, bytes_of_key, Call, computed_unless, counted, Ctr, drawn_by, element_reply, ElementCall, enciphered, Failed, false≢true, first_row, first_row-back, first_row-front, given, HandleOperation, Hardware, has_vector, HasDrawn, is_ok, is_opaque_key, IsElementAnswered, IsOfElement, IsOwnPart, IsReplied, IsSound, Key, key_rows, KeyedCall, mark_computed, marked_reply, model_call, model_keyed_call, next_random, NotComputed, OnStore, Output, own_of, plain_step, Random, refusal, Refused, replies, Reply, reply_on, reply_unless, Rows, rows_before, serve, Service, Status, step, Store, takes_vector, words_used}
+use Rattle.callers.proofs.Common.{AnswersCall, AnswersReply, Bool, Call, Ctr, ElementCall, Err, Failed, HandleOperation, Hardware, HasDrawn, IsElementAnswered, IsOfElement, IsOwnPart, IsReplied, IsSound, Key, KeyedCall, List, MatchOption, None, NotComputed, Ok, OnStore, Option, Output, Random, Refused, Reply, Result, Rows, Service, Some, Status, Store, all_rows, ap, arith, asks_device, bytes_of_key, computed_unless, counted, drawn_by, element_reply, enciphered, false, false≢true, first_row, first_row-back, first_row-front, given, has_vector, if◌then◌else◌, inl, inr, is_ok, is_opaque_key, is_some, key_rows, length, mark_computed, marked_reply, model_call, model_keyed_call, next_random, own_of, plain_step, refl, refusal, replies, reply_on, reply_unless, rows_before, serve, step, subst, sym, takes_vector, true, words_used, ℕ, ◌&&◌, ◌++◌, ◌+◌, ◌∙◌, ◌≡◌, ◌≤◌, ◌⊎◌}
 use Rattle.std.specs.FinMap as map
 use Rattle.driver_dispatch.specs.Held.{HeldKeys}
 use Rattle.secure_element_calls.specs.declared.calls.ElementCall.TheVariants.{MacCompute, MacVerify, CtrEncrypt, CtrDecrypt}
-use Rattle.secure_element_calls.proofs.Answering.{refused_before}
-use Rattle.secure_element_calls.proofs.Replying.{asks, replies_are}
+use Rattle.secure_element_calls.proofs.{Answering.refused_before, Replying.asks, Replying.replies_are}
 use Rattle.callers.proofs.Owned.{failed_own, stored_own}
 
 -- WHAT IS DRAWN

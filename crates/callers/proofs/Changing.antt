@@ -1,6 +1,5 @@
 -- A handle's operation becomes another one, and its lease is kept or handed out.
-use Rattle.std.proofs.Common.{Bool, List, None, Option, Some, [], ap, arith, cond, count_by, false, get_or, inl, inr, length, length-append, refl, set, sym, true, ℕ, ⊎_elim, ◌++◌, ◌+◌, ◌-◌, ◌<◌, ◌∙◌, ◌∷◌, ◌≡◌, ◌⊎◌}
-use Rattle.callers.proofs.Common.{AreOperations, ArePairs, OperationHandle, HandleOperation, HoldsLease, IsChanged, IsOperation, Pairs, Reading, false≢true, is_active, lease_pair, leases_of, pairs_of, sum_by-append}
+use Rattle.callers.proofs.Common.{AreOperations, ArePairs, Bool, HandleOperation, HoldsLease, IsChanged, IsOperation, List, None, OperationHandle, Option, Pairs, Reading, Some, [], ap, arith, cond, count_by, false, false≢true, get_or, inl, inr, is_active, lease_pair, leases_of, length, length-append, pairs_of, refl, set, sum_by-append, sym, true, ℕ, ⊎_elim, ◌++◌, ◌+◌, ◌-◌, ◌<◌, ◌∙◌, ◌∷◌, ◌≡◌, ◌⊎◌}
 use Rattle.callers.proofs.HandleLists.{leases_put, names_lease, put_cell, tally-cons}
 
 -- the pairs of two leases, of which one is this one and the other none

@@ -1,22 +1,12 @@
 -- A caller after a call in one part with a key.
-use Rattle.std.proofs.Common.{Bool, Err, List, Result, ap, arith, count_by, false, if◌then◌else◌, length, subst, sym, true, ℕ, ◌&&◌, ◌+◌, ◌<◌, ◌∙◌, ◌∷◌, ◌≡◌, ◌≤◌}
-use Rattle.callers.proofs.Common.{AnswersCall, AnswersReply, bytes_of, Caller, Computed, computed_by, counted, DecidesAfter, drawn_by, drawn_from, draws_none, ElementCall, entries_of, Entry, few, has_vector, HasDrawn, is_ok, IsAnswered, IsAt, IsCalled, IsEntered, IsGivenBack, IsLent, IsOwnPart, IsReady, IsRefused, IsReplied, KeyedCall, KeyId, KeyUse, known_more, known_told, KnowsBefore, lease_pair, Legal, mark_computed, mark_of, may_change_keys, model_call, model_keyed_call, model_request, names, next_bytes, next_random, NotComputed, OnStore, Outcome, Output, own_of, Plain, RandomStream, Reading, replay, Reply, Request, Service, Status, step, takes_vector, use_refusal, wanted_by, with_computed, without_pair, words_used, World}
+use Rattle.callers.proofs.Common.{AnswersCall, AnswersReply, Bool, Caller, Computed, DecidesAfter, ElementCall, Entry, Err, HasDrawn, IsAnswered, IsAt, IsCalled, IsEntered, IsGivenBack, IsLent, IsOwnPart, IsReady, IsRefused, IsReplied, KeyId, KeyUse, KeyedCall, KnowsBefore, Legal, List, NotComputed, OnStore, Outcome, Output, Plain, RandomStream, Reading, Reply, Request, Result, Service, Status, World, ap, arith, bytes_of, computed_by, count_by, counted, drawn_by, drawn_from, draws_none, entries_of, false, few, has_vector, if◌then◌else◌, is_ok, known_more, known_told, lease_pair, length, mark_computed, mark_of, may_change_keys, model_call, model_keyed_call, model_request, names, next_bytes, next_random, own_of, replay, step, subst, sym, takes_vector, true, use_refusal, wanted_by, with_computed, without_pair, words_used, ℕ, ◌&&◌, ◌+◌, ◌<◌, ◌∙◌, ◌∷◌, ◌≡◌, ◌≤◌}
 use Rattle.std.specs.FinMap as map
 use Rattle.store_core.specs.Prelude.{IsElementAnswered as IsOfElement}
-use Rattle.service_calls.specs.declared.call.Call.{Call}
+use Rattle.service_calls.specs.{declared.call.Call.Call, declared.store_calls.Keyed.Keyed, declared.store_calls.StoreCall.TheVariants.Compute}
 use Rattle.service_calls.specs.declared.call.Call.TheVariants.{OnStore as OnStoreCall}
-use Rattle.service_calls.specs.declared.store_calls.Keyed.{Keyed}
-use Rattle.service_calls.specs.declared.store_calls.StoreCall.TheVariants.{Compute}
-use Rattle.callers.proofs.ByElement.{element_fits, element_own}
-use Rattle.callers.proofs.HandleLists.{first_named, tally-cons, without}
-use Rattle.callers.proofs.Failing.{AnswersAs, answers_plain, computed_plainly, element_tells, refused_tells, use_plainly}
-use Rattle.callers.proofs.Journeys.{called, called_then}
-use Rattle.callers.proofs.Looking.{AreSpares, put_back}
-use Rattle.callers.proofs.Owned.{stored_own}
-use Rattle.callers.proofs.Readying.{known}
-use Rattle.callers.proofs.Storing.{kept_answered, kept_ready}
-use Rattle.callers.proofs.Supposed.{at_store, by_after, quiet_leaves}
-use Rattle.callers.proofs.WithKeys.{IsLocal, IsRefusal, lent_step, refusal_of}
+use Rattle.callers.proofs.{ByElement.element_fits, ByElement.element_own, HandleLists.first_named, HandleLists.tally-cons, HandleLists.without}
+use Rattle.callers.proofs.{Failing.AnswersAs, Failing.answers_plain, Failing.computed_plainly, Failing.element_tells, Failing.refused_tells, Failing.use_plainly, Journeys.called, Journeys.called_then, Looking.AreSpares, Looking.put_back}
+use Rattle.callers.proofs.{Owned.stored_own, Readying.known, Storing.kept_answered, Storing.kept_ready, Supposed.at_store, Supposed.by_after, Supposed.quiet_leaves, WithKeys.IsLocal, WithKeys.IsRefusal, WithKeys.lent_step, WithKeys.refusal_of}
 
 -- the request, by the key that the computation names
 pub asked_with : (call : Call) (asked : Keyed) (key : KeyId) (room : ℕ) → call ≡ OnStoreCall (Compute asked) → key ≡ asked.key → model_request call room ≡ OnStore (model_keyed_call asked.call key.0 room)

@@ -1,12 +1,9 @@
 -- What the one-thread service makes of a call that creates a key of derived bytes.
-use Rattle.std.proofs.Common.{Err, List, None, Ok, Option, Result, Some, ap, inl, inr, length, min, refl, subst, sym, true, ℕ, ◌∙◌, ◌≡◌, ◌≤◌, ◌⊎◌}
-use Rattle.callers.proofs.Common.{Active, applied, Attributes, by_number, counted, created, created_unless, derivation_part, DerivationWork, derived_key, Deriving, fails, handle_step, HandleOperation, has_live_key, HasNumber, held_after, InError, is_alive, IsMade, IsSound, IsSoundOperation, IsUnmade, key_of_operation, KeyCreation, mark_unmade, next_derived, NotMade, OnHandle, operation_of, output_key_refusal, OutputKey, outputs, Own, own_of, part_of, Plain, Reading, recorded_of, recorded_refused, RecordsStated, refusal, rekeyed, serve, Served, Service, spoiled, stated_bytes, Status, status_unmade, Store, underived, with_operation, with_own, without}
+use Rattle.callers.proofs.Common.{Active, Attributes, DerivationWork, Deriving, Err, HandleOperation, HasNumber, InError, IsMade, IsSound, IsSoundOperation, IsUnmade, KeyCreation, List, None, NotMade, Ok, OnHandle, Option, OutputKey, Own, Plain, Reading, RecordsStated, Result, Served, Service, Some, Status, Store, ap, applied, by_number, counted, created, created_unless, derivation_part, derived_key, fails, handle_step, has_live_key, held_after, inl, inr, is_alive, key_of_operation, length, mark_unmade, min, next_derived, operation_of, output_key_refusal, outputs, own_of, part_of, recorded_of, recorded_refused, refl, refusal, rekeyed, serve, spoiled, stated_bytes, status_unmade, subst, sym, true, underived, with_operation, with_own, without, ℕ, ◌∙◌, ◌≡◌, ◌≤◌, ◌⊎◌}
 use Rattle.psa_status.specs.declared.Status.TheVariants as status
 use Rattle.store_core.specs.declared.creating.NotMade.TheVariants as unmade
 use Rattle.store_core.specs.declared.creating.Unkept.TheVariants as unkept
-use Rattle.callers.proofs.KeySizes.{few_recorded, front_recorded}
-use Rattle.callers.proofs.Rekeying.{LivesBy, chosen, no_test, part_rekeyed}
-use Rattle.callers.proofs.SettingUp.{undrawn_own}
+use Rattle.callers.proofs.{KeySizes.few_recorded, KeySizes.front_recorded, Rekeying.LivesBy, Rekeying.chosen, Rekeying.no_test, Rekeying.part_rekeyed, SettingUp.undrawn_own}
 
 -- a lease, where there is one, is of the operation's key
 abbrev pub IsLeaseOf : Option Reading → Option KeyCreation → Type 0

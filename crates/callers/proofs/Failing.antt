@@ -1,20 +1,16 @@
 -- Results tell of a device that failed exactly where their marks do.
-use Rattle.std.proofs.Common.{Bool, Err, List, MatchOption, MatchResult, None, Ok, Option, Result, Some, ap, bytes_eq, drop, false, if◌then◌else◌, inl, inr, length, nat_lt, refl, subst, sym, take, true, ℕ, ◌-◌, ◌∙◌, ◌≡◌}
-use Rattle.callers.proofs.Common.{Active, aead_part, After, all_rows, answers_plainly, AnswersReply, Attributes, Authenticating, bytes_of_key, cipher_part, Ciphering, class_rows, Computed, computed_by, computed_unless, Copy, created_unless, DataCorrupt, derivation_key_rows, derivation_part, DerivationWork, derived_key_refused, Deriving, done, ElementCall, exhausted, export_rows, Failed, failure_in, failure_marked, failure_told, first_row, given, goes_on, HandleCall, HandleOperation, HardwareFailure, hash_part, Hashing, Held, Inactive, InError, InvalidHandle, InvalidSignature, is_ok, IsOfElement, IsRefused, IsUncopied, IsUnmade, Key, key_refused, key_step_rows, KeyedCall, KeylessSetup, KeyUse, mac_part, mark_computed, mark_of, mark_uncopied, mark_undestroyed, mark_unmade, next_derived, NoFault, not_computed_status, NotComputed, NotCopied, NotDestroyed, NotMade, on_part, OnAead, OnCipher, OnDerivation, OnHash, OnMac, OnStore, Operation, Output, output_key_rows, part_of, Random, recorded_refused, RecordsCopy, RecordsStated, refusal_without_key, Refused, refuses_plainly, RefusesPlainly, Reply, reply_unless, room_rows, Sealing, Service, set_up, spoiled, stated_bytes, Status, status_uncopied, status_undestroyed, status_unmade, stepped_by, StorageFailure, Store, tag_bytes, taken_from, there_rows, unless_failed, use_refusal, without, Work}
+use Rattle.callers.proofs.Common.{Active, After, AnswersReply, Attributes, Authenticating, Bool, Ciphering, Computed, Copy, DataCorrupt, DerivationWork, Deriving, ElementCall, Err, Failed, HandleCall, HandleOperation, HardwareFailure, Hashing, Held, InError, Inactive, InvalidHandle, InvalidSignature, IsOfElement, IsRefused, IsUncopied, IsUnmade, Key, KeyUse, KeyedCall, KeylessSetup, List, MatchOption, MatchResult, NoFault, None, NotComputed, NotCopied, NotDestroyed, NotMade, Ok, OnAead, OnCipher, OnDerivation, OnHash, OnMac, OnStore, Operation, Option, Output, Random, RecordsCopy, RecordsStated, Refused, RefusesPlainly, Reply, Result, Sealing, Service, Some, Status, StorageFailure, Store, Work, aead_part, all_rows, answers_plainly, ap, bytes_eq, bytes_of_key, cipher_part, class_rows, computed_by, computed_unless, created_unless, derivation_key_rows, derivation_part, derived_key_refused, done, drop, exhausted, export_rows, failure_in, failure_marked, failure_told, false, first_row, given, goes_on, hash_part, if◌then◌else◌, inl, inr, is_ok, key_refused, key_step_rows, length, mac_part, mark_computed, mark_of, mark_uncopied, mark_undestroyed, mark_unmade, nat_lt, next_derived, not_computed_status, on_part, output_key_rows, part_of, recorded_refused, refl, refusal_without_key, refuses_plainly, reply_unless, room_rows, set_up, spoiled, stated_bytes, status_uncopied, status_undestroyed, status_unmade, stepped_by, subst, sym, tag_bytes, take, taken_from, there_rows, true, unless_failed, use_refusal, without, ℕ, ◌-◌, ◌∙◌, ◌≡◌}
 use Rattle.std.specs.FinMap as map
 use Rattle.alg_encoding.specs.Encoding.{is_concrete}
 use Rattle.slot_table.specs.Lent as lent
-use Rattle.key_policy.specs.declared.key_use.KeyUse.TheVariants.{Export, Algorithm, Derivation}
-use Rattle.key_policy.specs.Permissions.{export_refusal, pattern_refusal}
+use Rattle.key_policy.specs.{declared.key_use.KeyUse.TheVariants.Export, declared.key_use.KeyUse.TheVariants.Algorithm, declared.key_use.KeyUse.TheVariants.Derivation, Permissions.export_refusal, Permissions.pattern_refusal}
 use Rattle.service_calls.specs.declared.handle_calls.KeylessSetup.TheVariants as setup
 use Rattle.service_calls.specs.declared.store_calls.KeyedCall.TheVariants as call
 use Rattle.alg_encoding.specs.declared.table.Class.TheVariants as class
 use Rattle.store_model.specs.Aeads as aeads
 use Rattle.store_model.specs.Ciphers as ciphers
 use Rattle.store_model.specs.Macs as macs
-use Rattle.store_model.proofs.Derivations.{derivation_is_step}
-use Rattle.store_model.proofs.Steps.{aead_is_step, cipher_is_step, hash_is_step, mac_is_step}
-use Rattle.store_model.proofs.StoreShape.{used_plainly}
+use Rattle.store_model.proofs.{Derivations.derivation_is_step, Steps.aead_is_step, Steps.cipher_is_step, Steps.hash_is_step, Steps.mac_is_step, StoreShape.used_plainly}
 use Rattle.secure_element_calls.specs.declared.calls.ElementCall.TheVariants as element
 use Rattle.store_core.specs.declared.copying.NotCopied.TheVariants as uncopied
 use Rattle.store_core.specs.declared.creating.NotMade.TheVariants as unmade

@@ -1,14 +1,8 @@
 -- A caller after a call that creates a key of random bytes.
-use Rattle.std.proofs.Common.{Bool, Err, List, None, Ok, Option, Result, Some, ap, arith, false, if◌then◌else◌, inl, inr, length, nat_lt, refl, subst, sym, true, ℕ, ◌+◌, ◌<◌, ◌∙◌, ◌≡◌, ◌≤◌}
-use Rattle.callers.proofs.Common.{Attributes, Caller, CreatesKey, Entry, FaultMark, Generate, GoesOn, HandleOperation, IsMade, IsOwnPart, IsReady, IsSound, IsToldTo, IsUnmade, KeyId, NotMade, OnStore, Outcome, Plain, Random, RecordsStated, Request, Service, Starts, Status, Store, World, created_unless, drawn_for, first_row, generated, generation_of, is_destruction, mark_unmade, nat_tests, next_bytes, next_random, own_of, plain_step, recorded_of, replay, serve, stated_bits_rows, stated_bytes, step, unless, words_used}
-use Rattle.psa_status.specs.Rows.{◌>>=◌}
+use Rattle.callers.proofs.Common.{Attributes, Bool, Caller, CreatesKey, Entry, Err, FaultMark, Generate, GoesOn, HandleOperation, IsMade, IsOwnPart, IsReady, IsSound, IsUnmade, KeyId, List, None, NotMade, Ok, OnStore, Option, Outcome, Plain, Random, RecordsStated, Request, Result, Service, Some, Status, Store, World, ap, arith, created_unless, drawn_for, false, first_row, generated, generation_of, if◌then◌else◌, inl, inr, is_destruction, length, mark_unmade, nat_lt, nat_tests, next_bytes, next_random, own_of, plain_step, recorded_of, refl, replay, serve, stated_bits_rows, stated_bytes, step, subst, sym, true, unless, words_used, ℕ, ◌+◌, ◌<◌, ◌>>=◌, ◌∙◌, ◌≡◌, ◌≤◌, IsStartOf, ToldBy}
 use Rattle.store_core.specs.declared.creating.NotMade.TheVariants as unmade
 use Rattle.store_core.specs.declared.creating.Unkept.TheVariants as unkept
-use Rattle.callers.proofs.KeyReplies.{Gives, refusal_gives}
-use Rattle.callers.proofs.KeySizes.{few_or_many, few_recorded}
-use Rattle.callers.proofs.Owned.{failed_own, stored_own}
-use Rattle.callers.proofs.Readying.{random_there}
-use Rattle.callers.proofs.Storing.{DrawsNone}
+use Rattle.callers.proofs.{KeyReplies.Gives, KeyReplies.refusal_gives, KeySizes.few_or_many, KeySizes.few_recorded, Owned.failed_own, Owned.stored_own, Readying.random_there, Storing.DrawsNone}
 
 -- THE ONE-THREAD SERVICE
 
@@ -79,7 +73,7 @@ module _ {D A C : Type 0} (w : World D A C) (n : ℕ) (old : Caller D A C) (r : 
       recorded_so : (service : Service) (kept : Result Attributes Status) → Records (length bytes) service.store kept → kept ≡ recorded_of service.store old.number a (stated_bytes a)
       recorded_so service kept records = records ∙ ap (recorded_of service.store old.number a) long
 
-      same : (start : Service) → Starts w start → (h : List Entry) → GoesOn old.pass.me.0 h → IsToldTo w start h → (kept : Result Attributes Status) → kept ≡ recorded_of (replay start h).store old.number a (stated_bytes a) →
+      same : (start : Service) → IsStartOf w start → (h : List Entry) → GoesOn old.pass.me.0 h → ToldBy w start h → (kept : Result Attributes Status) → kept ≡ recorded_of (replay start h).store old.number a (stated_bytes a) →
           created_unless (replay start h).store old.number kept (next_random (replay start h) old.number (stated_bytes a)) ≡ created_unless (replay start h).store old.number kept bytes
       same start is h on tells kept stated = elim (few_or_many (stated_bytes a) (nat_lt 1024 (stated_bytes a)) refl) [
         | inl few ↦ ap (created_unless (replay start h).store old.number kept) (random_there w n old r start h is on tells (stated_bytes a) ∙ sym (drawn few))

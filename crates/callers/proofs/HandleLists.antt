@@ -1,6 +1,5 @@
 -- One handle of four is another, with its operation and its lease.
-use Rattle.std.proofs.Common.{Bool, List, None, Some, [], ap, arith, cond, count_by, eqb, false, get_or, inl, inr, length, length-set, not, refl, set, subst, suc, sym, true, zero, ℕ, ◌&&◌, ◌++◌, ◌+◌, ◌<◌, ◌==◌, ◌∙◌, ◌∷◌, ◌≡◌, ◌≢◌, ◌≤◌}
-use Rattle.callers.proofs.Common.{AreOperations, ArePairs, busy, eqb_tells, get_or-set_other, get_or-set_same, HandleOperation, Inactive, is_active, is_inactive, IsOperation, lease_pair, leases_of, names, nat_tests, OperationHandle, Pairs, pairs_of, Reading, same, sum_by-append, sum_by-cons, without_pair}
+use Rattle.callers.proofs.Common.{AreOperations, ArePairs, Bool, HandleOperation, Inactive, IsOperation, List, None, OperationHandle, Pairs, Reading, Some, [], ap, arith, busy, cond, count_by, eqb, eqb_tells, false, get_or, get_or-set_other, get_or-set_same, inl, inr, is_active, is_inactive, lease_pair, leases_of, length, length-set, names, nat_tests, not, pairs_of, refl, same, set, subst, suc, sum_by-append, sum_by-cons, sym, true, without_pair, zero, ℕ, ◌&&◌, ◌++◌, ◌+◌, ◌<◌, ◌==◌, ◌∙◌, ◌∷◌, ◌≡◌, ◌≢◌, ◌≤◌}
 
 -- OPERATIONS
 

@@ -1,19 +1,11 @@
 -- A caller after a call that gives a derivation a key.
-use Rattle.std.proofs.Common.{Bool, Err, List, None, Ok, Option, Some, ap, arith, false, if◌then◌else◌, is_some, not, refl, subst, sym, true, ℕ, ◌-◌, ◌∙◌, ◌∷◌, ◌≡◌, ◌≤◌}
-use Rattle.callers.proofs.Common.{Active, After, applied, bytes_of, Caller, counted, creation_of, DecidesAfter, derivation_part, DerivationWork, Deriving, done, entries_of, Entry, fails, failure_marked, FaultMark, first_row, goes_on, handle_step, HandleOperation, Held, HoldsLease, id_read, Inactive, InError, InputKey, is_alive, is_inactive, IsAnswered, IsAsked, IsAt, IsChanged, IsEntered, IsLent, IsReady, IsRefused, key_refused, key_step_rows, KeyCreation, KeyUse, known_more, KnowsBefore, lease_pair, Legal, mark_of, may_change_keys, on_part, OnHandle, Operation, operation_at, operation_of, outcome_of, Own, own_of, Pairs, part_of, Plain, RandomStream, Reading, ReadsKey, refusal, RefusesKeyAt, rekeyed, replay, Request, serve, Service, Status, takes_key, TakesKeyAt, unless_failed, use_refusal, with_key, with_operation, with_own, World}
+use Rattle.callers.proofs.Common.{Active, After, Bool, Caller, DecidesAfter, DerivationWork, Deriving, Entry, Err, FaultMark, HandleOperation, Held, HoldsLease, InError, Inactive, InputKey, IsAnswered, IsAsked, IsAt, IsChanged, IsEntered, IsLent, IsReady, IsRefused, KeyCreation, KeyUse, KnowsBefore, Legal, List, None, Ok, OnHandle, Operation, Option, Own, Pairs, Plain, RandomStream, Reading, ReadsKey, RefusesKeyAt, Request, Service, Some, Status, TakesKeyAt, World, ap, applied, arith, bytes_of, counted, creation_of, derivation_part, done, entries_of, fails, failure_marked, false, first_row, goes_on, handle_step, id_read, if◌then◌else◌, is_alive, is_inactive, is_some, key_refused, key_step_rows, known_more, lease_pair, mark_of, may_change_keys, not, on_part, operation_at, operation_of, outcome_of, own_of, part_of, refl, refusal, rekeyed, replay, serve, subst, sym, takes_key, true, unless_failed, use_refusal, with_key, with_operation, with_own, ℕ, ◌-◌, ◌∙◌, ◌∷◌, ◌≡◌, ◌≤◌}
 use Rattle.psa_status.specs.declared.Status.TheVariants as status
 use Rattle.service_calls.specs.declared.output.Output.TheVariants as output
 use Rattle.store_model.specs.KeyUse as held
 use Rattle.operation_handles.proofs.ServedInputs.{inputs}
-use Rattle.callers.proofs.Beginning.{IsBegun, begun_answered, changed_ready, kept_ready}
-use Rattle.callers.proofs.HandleLists.{busy_put, once}
-use Rattle.callers.proofs.Failing.{refused_tells, use_plainly}
-use Rattle.callers.proofs.Journeys.{called}
-use Rattle.callers.proofs.Looking.{AreSpares}
-use Rattle.callers.proofs.Readying.{outcome_is, own_there}
-use Rattle.callers.proofs.SettingUp.{undrawn_own}
-use Rattle.callers.proofs.Rekeying.{part_rekeyed, part_replies}
-use Rattle.callers.proofs.Supposed.{by_after, quiet_leaves, standing}
+use Rattle.callers.proofs.{Beginning.IsBegun, Beginning.begun_answered, Beginning.changed_ready, Beginning.kept_ready, HandleLists.busy_put, HandleLists.once, Failing.refused_tells, Failing.use_plainly, Journeys.called, Looking.AreSpares}
+use Rattle.callers.proofs.{Readying.outcome_is, Readying.own_there, SettingUp.undrawn_own, Rekeying.part_rekeyed, Rekeying.part_replies, Supposed.by_after, Supposed.quiet_leaves, Supposed.standing}
 
 -- THE ONE-THREAD SERVICE
 

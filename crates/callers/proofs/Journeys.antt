@@ -2,8 +2,7 @@
 
 -- VIEWS
 
-use Rattle.std.proofs.Common.{Bool, List, Option, [], ap, append_assoc, arith, eqb, false, inl, inr, refl, subst, sym, true, ℕ, ◌++◌, ◌+◌, ◌∙◌, ◌∷◌, ◌≡◌}
-use Rattle.callers.proofs.Common.{Entry, FaultMark, GoesOn, IsCalled, IsEntered, IsLater, IsTold, Pairs, ReadsNone, Request, Service, StartsWith, View, append_none, caller_of, calls-append, calls_by, choose, entries-append, entries_of, leaves_callers, outcome_of, own_of, replay}
+use Rattle.callers.proofs.Common.{Bool, Entry, FaultMark, GoesOn, IsCalled, IsEntered, IsLater, IsTold, List, Option, Pairs, ReadsNone, Request, Service, StartsWith, View, [], ap, append_assoc, append_none, arith, caller_of, calls-append, calls_by, choose, entries-append, entries_of, eqb, false, inl, inr, leaves_callers, outcome_of, own_of, refl, replay, subst, sym, true, ℕ, ◌++◌, ◌+◌, ◌∙◌, ◌∷◌, ◌≡◌}
 
 pub begins_through : {A : Type 0} (whole middle part : List A) → StartsWith whole middle → StartsWith middle part → StartsWith whole part
 begins_through whole middle part s t = (t.0 ++ s.0, s.1 ∙ (ap (λ l. l ++ s.0) t.1 ∙ append_assoc part t.0 s.0))

@@ -1,6 +1,5 @@
 -- What is answered by calls on a key that neither read its bytes nor make one.
-use Rattle.std.proofs.Common.{Err, List, None, Ok, Option, Result, Some, ap, refl, subst, sym, ℕ, ◌≡◌}
-use Rattle.callers.proofs.Common.{AnswersReply, Attributes, Destroy, GetAttributes, HasAttributes, IsRefused, IsUndestroyed, Key, NotDestroyed, OnStore, Output, Plain, Purge, Reply, Service, Status, Store, attributes_reply, buffer_after, counted, decided, destroy_rows, destroyed, done, first_row, mark_of, mark_undestroyed, purge_reply, refusal, serve, spoiled, status_undestroyed, step_destroy, there_rows}
+use Rattle.callers.proofs.Common.{AnswersReply, Attributes, Destroy, Err, GetAttributes, HasAttributes, IsRefused, IsUndestroyed, Key, List, None, NotDestroyed, Ok, OnStore, Option, Output, Plain, Purge, Reply, Result, Service, Some, Status, Store, ap, attributes_reply, buffer_after, counted, decided, destroy_rows, destroyed, done, first_row, mark_of, mark_undestroyed, purge_reply, refl, refusal, serve, spoiled, status_undestroyed, subst, sym, there_rows, ℕ, ◌≡◌}
 use Rattle.std.specs.FinMap as map
 use Rattle.psa_status.specs.declared.Status.TheVariants as status
 use Rattle.service_calls.specs.declared.output.Output.TheVariants as output
@@ -19,7 +18,7 @@ refusal_gives s = record { answers = (refl, refl); unwritten = λ buffer. refl }
 
 -- DESTROY
 
-pub destroy_draws : (store : Store) (id : ℕ) → (step_destroy store id).drawn ≡ 0
+pub destroy_draws : (store : Store) (id : ℕ) → (decided store (first_row (destroy_rows (map.get store.keys id) id)) (destroyed store id)).drawn ≡ 0
 destroy_draws store id = by (first_row (destroy_rows (map.get store.keys id) id))
   where
     by : (o : Option Status) → (decided store o (destroyed store id)).drawn ≡ 0

@@ -1,7 +1,5 @@
 -- A creation of more than 1,024 bytes, which the code makes of 1,025, is refused.
-use Rattle.std.proofs.Common.{Bool, Err, Ok, Option, Some, [], ap, arith, bit_and, cond, false, inl, inr, min, nat_le, nat_lt, not, refl, sym, true, ℕ, ◌&&◌, ◌*◌, ◌<◌, ◌==◌, ◌||◌, ◌∙◌, ◌∷◌, ◌≡◌, ◌≤◌, ◌⊎◌}
-use Rattle.callers.proofs.Common.{Attributes, InvalidArgument, NotSupported, Status, Store, few_bytes, first_row, has_secure_element, nat_tests, recorded, recorded_of, room_for_key_rows, unless}
-use Rattle.psa_status.specs.Rows.{◌>>=◌}
+use Rattle.callers.proofs.Common.{Attributes, Bool, Err, InvalidArgument, NotSupported, Ok, Option, Some, Status, Store, [], ap, arith, bit_and, cond, false, few_bytes, first_row, has_secure_element, inl, inr, min, nat_le, nat_lt, nat_tests, not, recorded, recorded_of, refl, room_for_key_rows, sym, true, unless, ℕ, ◌&&◌, ◌*◌, ◌<◌, ◌==◌, ◌>>=◌, ◌||◌, ◌∙◌, ◌∷◌, ◌≡◌, ◌≤◌, ◌⊎◌}
 use Rattle.key_attributes.specs.Checks.{checked, filled, permits_size, is_lifetime, is_stated_id, is_key_type}
 use Rattle.policy_rules.specs.Narrow.{after_rules}
 

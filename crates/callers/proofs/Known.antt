@@ -1,12 +1,12 @@
 -- What is known of a one-thread service before an entry.
 use Rattle.std.proofs.Common.{List, [], subst, ◌++◌, ◌∷◌}
 use Rattle.store_model.specs.Prelude.{Entry, Service, replay}
-use Rattle.locked_store.specs.Prelude.{World}
-use Rattle.callers.specs.Called.{IsToldTo, KnowsBefore, Starts}
+use Rattle.callers.specs.Called.{KnowsBefore}
+use Rattle.locked_store.specs.Prelude.{IsStartOf, ToldBy, World}
 
 -- P holds of the replay's service, as far as the history with the entry is told
 abbrev pub KnowsTold : {D A C : Type 0} (w : World D A C) → (Service → Type 0) → List Entry → Entry → Type 0
-KnowsTold w P before e = (start : Service) → Starts w start → IsToldTo w start (before ++ e ∷ []) → P (replay start before)
+KnowsTold w P before e = (start : Service) → IsStartOf w start → ToldBy w start (before ++ e ∷ []) → P (replay start before)
 
 -- and with it whatever follows
 pub known_more : {D A C : Type 0} {w : World D A C} {P Q : Service → Type 0} {before : List Entry} {e : Entry} → ((service : Service) → P service → Q service) → KnowsBefore w P before e → KnowsBefore w Q before e

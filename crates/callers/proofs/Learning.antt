@@ -1,6 +1,5 @@
 -- A caller that has seen what another one had.
-use Rattle.std.proofs.Common.{All, Bool, ap, arith, cond, count_by, false, length, nat_lt, subst, sym, true, vec_capacity, ◌∙◌, ◌≡◌, ◌≤◌, ◌⊎◌}
-use Rattle.callers.proofs.Common.{AreOperations, Caller, Entry, IsClear, IsHolding, IsOwnPart, IsReady, IsToldTo, Legal, Opened, OwnCalls, SameButPass, StartsWith, View, World, caller_of, calls_by, entries_of, joined, leases_of, longer, own_of, replay}
+use Rattle.callers.proofs.Common.{All, AreOperations, Bool, Caller, Entry, IsClear, IsHolding, IsOwnPart, IsReady, Legal, Opened, OwnCalls, SameButPass, StartsWith, View, World, ap, arith, caller_of, calls_by, cond, count_by, entries_of, false, joined, leases_of, length, longer, nat_lt, own_of, replay, subst, sym, true, vec_capacity, ◌∙◌, ◌≡◌, ◌≤◌, ◌⊎◌, ToldBy}
 use Rattle.turn_history.proofs.Using.{longer_left, longer_right}
 use Rattle.callers.proofs.Journeys.{own_later, seen_begins, told_front}
 
@@ -46,7 +45,7 @@ module _ {D A C : Type 0} (w : World D A C) (old new : Caller D A C) (other : Vi
         operations = r.operations;
         stand = subst (λ h. AreOperations h.list.items r.operations) (sym same.handles) r.stand;
         own = λ start starts tells.
-            let here : IsToldTo w start (entries_of v.seen) = told_front (w.disk.contents w.opened.file.value.cells.disk) start (entries_of u.seen) (entries_of v.seen) whole tells in
+            let here : ToldBy w start (entries_of v.seen) = told_front (w.disk.contents w.opened.file.value.cells.disk) start (entries_of u.seen) (entries_of v.seen) whole tells in
             let mine : calls_by caller_of u.number (entries_of u.seen) ≡ calls_by caller_of v.number (entries_of v.seen) =
             calls (omega arith) ∙ (ap (λ (x : View Entry (Opened D A C)). x.calls) is ∙ sym (r.at.calls (let a = r.at.first in omega arith))) in
             let kept : own_of (replay start (entries_of u.seen)) v.number ≡ own_of (replay start (entries_of v.seen)) v.number =

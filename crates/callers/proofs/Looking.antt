@@ -1,6 +1,5 @@
 -- A caller has what a turn asks that looks for a key.
-use Rattle.std.proofs.Common.{All, List, None, Option, Some, [], ap, arith, length, length-append, nat_lt, refl, subst, sym, vec_capacity, vec_len, ℕ, ◌++◌, ◌+◌, ◌<◌, ◌∙◌, ◌∷◌, ◌≡◌, ◌≤◌}
-use Rattle.callers.proofs.Common.{All-pop, All-push, Buffer, Caller, count_by-le-length, HasRoomForLease, IsClear, IsReady, leases_of, OperationHandle, option_to_list, pairs_of, Reading, World}
+use Rattle.callers.proofs.Common.{All, All-pop, All-push, Buffer, Caller, HasRoomForLease, IsClear, IsReady, List, None, OperationHandle, Option, Reading, Some, World, [], ap, arith, count_by-le-length, leases_of, length, length-append, nat_lt, option_to_list, pairs_of, refl, subst, sym, vec_capacity, vec_len, ℕ, ◌++◌, ◌+◌, ◌<◌, ◌∙◌, ◌∷◌, ◌≡◌, ◌≤◌}
 use Rattle.std.specs.Global.{Vec}
 
 few_leases : (cells : List OperationHandle) → length (leases_of cells) ≤ length cells

@@ -1,6 +1,5 @@
 -- What the one-thread service makes of a call that creates a key.
-use Rattle.std.proofs.Common.{Err, List, None, Ok, Option, Result, Some, ap, refl, subst, sym, ℕ, ◌∙◌, ◌≡◌}
-use Rattle.callers.proofs.Common.{Attributes, created_unless, IsMade, IsRefused, IsUncopied, IsUnmade, KeyId, mark_of, mark_uncopied, mark_unmade, NotCopied, NotMade, Plain, plain_step, Reply, Request, serve, Service, spoiled, Status, status_of, status_uncopied, status_unmade, Store, there_rows}
+use Rattle.callers.proofs.Common.{Attributes, Err, IsMade, IsRefused, IsUncopied, IsUnmade, KeyId, List, None, NotCopied, NotMade, Ok, Option, Plain, Reply, Request, Result, Service, Some, Status, Store, ap, created_unless, mark_of, mark_uncopied, mark_unmade, plain_step, refl, serve, spoiled, status_of, status_uncopied, status_unmade, subst, sym, there_rows, ℕ, ◌∙◌, ◌≡◌}
 use Rattle.std.specs.FinMap as map
 use Rattle.psa_status.specs.declared.Status.TheVariants as status
 use Rattle.service_calls.specs.declared.output.Output.TheVariants as output

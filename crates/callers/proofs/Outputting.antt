@@ -1,21 +1,12 @@
 -- A caller after a call that creates a key of derived bytes.
-use Rattle.std.proofs.Common.{All, Bool, Err, List, None, Ok, Option, Result, Some, [], ap, arith, count_by, false, get_or, if◌then◌else◌, inr, length, min, nat_lt, not, refl, subst, sym, take, take_all, true, vec_capacity, ℕ, ◌&&◌, ◌+◌, ◌-◌, ◌<◌, ◌==◌, ◌∙◌, ◌∷◌, ◌≡◌, ◌≤◌}
-use Rattle.callers.proofs.Common.{Active, applied, AreOperations, Attributes, Caller, created, CreatesKey, DecidesBefore, derivation_part, DerivationWork, derived_key_refused, Deriving, draws_none, entries_of, Entry, exhausted, fails, FailsDerivation, FaultMark, first_row, first_row-back, get_or-set_same, goes_on, HandleOperation, has_live_key, Inactive, InError, InsufficientData, is_active, is_destruction, IsAnswered, IsAsked, IsAt, IsBack, IsCalled, IsChanged, IsClear, IsCreated, IsDerivedKey, IsMade, IsOperation, IsOwn, IsOwnPart, IsReady, IsReplied, IsSound, IsUnmade, key_of_operation, KeyCreation, KeyId, known_more, known_told, KnowsBefore, KnowsTold, leases_of, LeavesAllKeys, Legal, length-take-le, mark_unmade, next_derived, NotMade, on_part, OnHandle, Operation, operation_at, operation_of, OperationHandle, outcome_of, output_key_refusal, output_key_rows, OutputKey, outputs, own_of, Pairs, part_of, Plain, plain_step, RandomStream, Reading, RecordsStated, refused_by, rekeyed, replay, Reply, Request, serve, Served, Service, set-set, start_of, stated_bytes, Status, status_unmade, Store, Success, taken_from, TellsFailure, unless_failed, with_drawn, with_operation, with_operation_at, without, without_bytes, World}
+use Rattle.callers.proofs.Common.{Active, All, AreOperations, Attributes, Bool, Caller, CreatesKey, DecidesBefore, DerivationWork, Deriving, Entry, Err, FailsDerivation, FaultMark, HandleOperation, InError, Inactive, InsufficientData, IsAnswered, IsAsked, IsAt, IsBack, IsCalled, IsChanged, IsClear, IsCreated, IsDerivedKey, IsMade, IsOperation, IsOwn, IsOwnPart, IsReady, IsReplied, IsSound, IsUnmade, KeyCreation, KeyId, KnowsBefore, KnowsTold, LeavesAllKeys, Legal, List, None, NotMade, Ok, OnHandle, Operation, OperationHandle, Option, OutputKey, Pairs, Plain, RandomStream, Reading, RecordsStated, Reply, Request, Result, Served, Service, Some, Status, Store, Success, TellsFailure, World, [], ap, applied, arith, count_by, created, derivation_part, derived_key_refused, draws_none, entries_of, exhausted, fails, false, first_row, first_row-back, get_or, get_or-set_same, goes_on, has_live_key, if◌then◌else◌, inr, is_active, is_destruction, key_of_operation, known_more, known_told, leases_of, length, length-take-le, mark_unmade, min, nat_lt, next_derived, not, on_part, operation_at, operation_of, outcome_of, output_key_refusal, output_key_rows, outputs, own_of, part_of, plain_step, refl, refused_by, rekeyed, replay, serve, set-set, start_of, stated_bytes, status_unmade, subst, sym, take, take_all, taken_from, true, unless_failed, vec_capacity, with_drawn, with_operation, with_operation_at, without, without_bytes, ℕ, ◌&&◌, ◌+◌, ◌-◌, ◌<◌, ◌==◌, ◌∙◌, ◌∷◌, ◌≡◌, ◌≤◌}
 use Rattle.service_calls.specs.declared.output.Output.TheVariants as output
 use Rattle.store_model.specs.Prelude.{given as given_bytes}
 use Rattle.derivation_states.specs.KeySteps as alone
-use Rattle.callers.proofs.Asking.{leased_key, unleased_key}
-use Rattle.callers.proofs.Beginning.{at_handle}
-use Rattle.callers.proofs.HandleLists.{busy_put, cell_at, named_alike, names_is, names_lease, once, tally-cons}
+use Rattle.callers.proofs.{Asking.leased_key, Asking.unleased_key, Beginning.at_handle, HandleLists.busy_put, HandleLists.cell_at, HandleLists.named_alike, HandleLists.names_is, HandleLists.names_lease, HandleLists.once, HandleLists.tally-cons}
 use Rattle.callers.proofs.Deriving.{IsLeaseOf, IsOneFor, LivesAs, TellsOf, lease_lives, made_tells, one_for, unmade_tells, derived_leaves, derived_replies, made_owns, underived_key}
-use Rattle.callers.proofs.Handling.{handled_answered, handled_ready}
-use Rattle.callers.proofs.Inputting.{derives_busy, refused_drawn}
-use Rattle.callers.proofs.Made.{made_gives}
-use Rattle.callers.proofs.Owned.{set_operation, set_own, sound_replay}
-use Rattle.callers.proofs.Readying.{answered, known, outcome_is, own_there, ready}
-use Rattle.callers.proofs.SettingUp.{undrawn_own}
-use Rattle.callers.proofs.Storing.{decided_known}
-use Rattle.callers.proofs.Rekeying.{part_rekeyed, part_replies}
+use Rattle.callers.proofs.{Handling.handled_answered, Handling.handled_ready, Inputting.derives_busy, Inputting.refused_drawn, Made.made_gives, Owned.set_operation, Owned.set_own, Owned.sound_replay}
+use Rattle.callers.proofs.{Readying.answered, Readying.known, Readying.outcome_is, Readying.own_there, Readying.ready, SettingUp.undrawn_own, Storing.decided_known, Rekeying.part_rekeyed, Rekeying.part_replies}
 use Rattle.callers.proofs.Supposed.{DecidesAt, IsSupposed, by_before, supposed}
 
 -- the lease of a handle is of its operation's key

@@ -1,6 +1,5 @@
 -- What is a caller's own in the one-thread service, as its entries change it.
-use Rattle.std.proofs.Common.{List, [], ap, arith, get_or, inl, inr, length, length-set, refl, set, subst, sym, ℕ, ◌+◌, ◌-◌, ◌∙◌, ◌∷◌, ◌≡◌, ◌≢◌, ◌≤◌}
-use Rattle.callers.proofs.Common.{After, applied, Call, Corrupt, Destroy, Entry, eqb_tells, failed_step, FaultMark, get_or-set_other, get_or-set_same, HandleOperation, Hardware, Held, Inactive, IsCaller, IsOwnPart, IsSound, IsSoundOperation, IsSoundStore, new_own, next_random, on_store, OnStore, Outcome, outcome_of, Own, own_of, Plain, replay, serve, Service, service_of, start_operation, start_own, step, Storage, Store, with_drawn, with_operation, with_own, words_used}
+use Rattle.callers.proofs.Common.{After, Call, Corrupt, Destroy, Entry, FaultMark, HandleOperation, Hardware, Held, Inactive, IsCaller, IsOwnPart, IsSound, IsSoundOperation, IsSoundStore, List, OnStore, Outcome, Own, Plain, Service, Storage, Store, [], ap, applied, arith, eqb_tells, failed_step, get_or, get_or-set_other, get_or-set_same, inl, inr, length, length-set, new_own, next_random, on_store, outcome_of, own_of, refl, replay, serve, service_of, set, start_operation, start_own, step, subst, sym, with_drawn, with_operation, with_own, words_used, ℕ, ◌+◌, ◌-◌, ◌∙◌, ◌∷◌, ◌≡◌, ◌≢◌, ◌≤◌}
 use Rattle.std.specs.List.{AllByRecursion}
 use Rattle.store_model.proofs.SoundService as sound
 

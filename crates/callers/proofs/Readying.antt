@@ -1,8 +1,6 @@
 -- What is known of the one-thread service at a caller's entry, and the caller after the call.
-use Rattle.std.proofs.Common.{All, List, Result, [], ap, arith, length, refl, subst, sym, vec_capacity, ℕ, ◌*◌, ◌++◌, ◌+◌, ◌^◌, ◌∙◌, ◌∷◌, ◌≡◌, ◌≤◌}
-use Rattle.callers.proofs.Common.{After, AnswersReply, AreOperations, ArePairs, Caller, Entry, FaultMark, GoesOn, HandleOperation, Held, IsAnswered, IsAt, IsCalled, IsClear, IsOwnPart, IsReady, IsReplied, IsSound, IsToldTo, KnowsBefore, KnowsTold, known_more, Legal, Output, Request, Served, Service, Settings, Starts, Status, TURNS, TellsFailure, TellsReply, World, applied, buffer_after, busy, entries_of, leases_of, leaves_settings, next_bytes, next_random, outcome_of, own_of, random_bytes, replay, serve, start_of, with_operation_at, words_used}
-use Rattle.callers.proofs.Journeys.{own_after, own_on, told_front}
-use Rattle.callers.proofs.Owned.{applied_own, sound_replay}
+use Rattle.callers.proofs.Common.{After, All, AnswersReply, AreOperations, ArePairs, Caller, Entry, FaultMark, GoesOn, HandleOperation, Held, IsAnswered, IsAt, IsCalled, IsClear, IsOwnPart, IsReady, IsReplied, IsSound, KnowsBefore, KnowsTold, Legal, List, Output, Request, Result, Served, Service, Settings, Status, TURNS, TellsFailure, TellsReply, World, [], ap, applied, arith, buffer_after, busy, entries_of, known_more, leases_of, leaves_settings, length, next_bytes, next_random, outcome_of, own_of, random_bytes, refl, replay, serve, start_of, subst, sym, vec_capacity, with_operation_at, words_used, ℕ, ◌*◌, ◌++◌, ◌+◌, ◌^◌, ◌∙◌, ◌∷◌, ◌≡◌, ◌≤◌, IsStartOf, ToldBy}
+use Rattle.callers.proofs.{Journeys.own_after, Journeys.own_on, Journeys.told_front, Owned.applied_own, Owned.sound_replay}
 
 pub outcome_is : (service : Service) (e : Entry) (n : ℕ) (request : Request) (mark : FaultMark) → e.caller ≡ n → e.call ≡ request → e.mark ≡ mark → outcome_of service e ≡ serve service n request mark
 outcome_is service e n request mark by called marked = λ i. serve service (by i) (called i) (marked i)
@@ -25,16 +23,16 @@ module _ {D A C : Type 0} (w : World D A C) where
     pub random : (count : ℕ) → next_random service old.number count ≡ next_bytes old.stream count
 
   -- in a history that goes on the service has what the caller has of its own
-  pub own_there : (n : ℕ) (old : Caller D A C) (r : Ready n old) (start : Service) (h : List Entry) → Starts w start → GoesOn old.pass.me.0 h → IsToldTo w start h → IsOwnPart r.operations old.stream.place (own_of (replay start h) old.number)
+  pub own_there : (n : ℕ) (old : Caller D A C) (r : Ready n old) (start : Service) (h : List Entry) → IsStartOf w start → GoesOn old.pass.me.0 h → ToldBy w start h → IsOwnPart r.operations old.stream.place (own_of (replay start h) old.number)
   own_there n old r start h is on tells =
-      let here : IsToldTo w start (entries_of old.pass.me.0.seen) = told_front (w.disk.contents w.opened.file.value.cells.disk) start h (entries_of old.pass.me.0.seen) on.since tells in
+      let here : ToldBy w start (entries_of old.pass.me.0.seen) = told_front (w.disk.contents w.opened.file.value.cells.disk) start h (entries_of old.pass.me.0.seen) on.since tells in
       let mine = own_on old.pass.me.0 start h on (r.at.calls (let z = r.at.first in omega arith)) in
       let own : own_of (replay start h) old.number ≡ own_of (replay start (entries_of old.pass.me.0.seen)) old.number =
       ap (own_of (replay start h)) (sym r.number) ∙ (mine ∙ ap (own_of (replay start (entries_of old.pass.me.0.seen))) r.number) in
       subst (IsOwnPart r.operations old.stream.place) (sym own) (r.own start is here)
 
   -- and draws the same random words
-  pub random_there : (n : ℕ) (old : Caller D A C) (r : Ready n old) (start : Service) (h : List Entry) → Starts w start → GoesOn old.pass.me.0 h → IsToldTo w start h → (count : ℕ) → next_random (replay start h) old.number count ≡ next_bytes old.stream count
+  pub random_there : (n : ℕ) (old : Caller D A C) (r : Ready n old) (start : Service) (h : List Entry) → IsStartOf w start → GoesOn old.pass.me.0 h → ToldBy w start h → (count : ℕ) → next_random (replay start h) old.number count ≡ next_bytes old.stream count
   random_there n old r start h is on tells count =
       let seed : (replay start h).store.settings.seed ≡ old.stream.seed =
       ap (λ (s : Settings). s.seed) (settings_stay start h) ∙ (ap (λ (s : Service). s.store.settings.seed) is.is ∙ (is.seed_is ∙ sym r.seed)) in
@@ -46,7 +44,7 @@ module _ {D A C : Type 0} (w : World D A C) where
     pub known : Knows (IsKnown old r.operations) before e
     known start is tells =
         let store = start_of is.settings is.found in
-        let here : IsToldTo w start before = told_front (w.disk.contents w.opened.file.value.cells.disk) start (before ++ e ∷ []) before (e ∷ [], refl) tells in
+        let here : ToldBy w start before = told_front (w.disk.contents w.opened.file.value.cells.disk) start (before ++ e ∷ []) before (e ∷ [], refl) tells in
         record {
           sound = sound_replay start store before is.is (r.sound start is) c.goes_on.signed;
           own = own_there n old r start before is c.goes_on here;

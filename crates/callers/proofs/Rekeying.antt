@@ -1,6 +1,5 @@
 -- What becomes of an operation doesn't depend on the identifier of its key.
-use Rattle.std.proofs.Common.{Bool, List, None, Option, Some, arith, ap, false, inl, inr, refl, subst, sym, true, ℕ, ◌==◌, ◌∙◌, ◌≡◌, ◌⊎◌}
-use Rattle.callers.proofs.Common.{Active, aead_part, After, Authenticating, cipher_part, Ciphering, derivation_part, Deriving, HandleCall, HandleOperation, hash_part, Hashing, HasNumber, Inactive, InError, is_alive, IsSoundOperation, Key, key_of_operation, KeyCreation, mac_part, nat_tests, on_part, OnAead, OnCipher, OnDerivation, OnHash, OnMac, Operation, option_map_or, part_of, Reading, rekeyed, Sealing, stepped_by, Store, Work}
+use Rattle.callers.proofs.Common.{Active, After, Authenticating, Bool, Ciphering, Deriving, HandleCall, HandleOperation, HasNumber, Hashing, InError, Inactive, IsSoundOperation, Key, KeyCreation, List, None, OnAead, OnCipher, OnDerivation, OnHash, OnMac, Operation, Option, Reading, Sealing, Some, Store, Work, aead_part, ap, arith, cipher_part, derivation_part, false, hash_part, inl, inr, is_alive, key_of_operation, mac_part, nat_tests, on_part, option_map_or, part_of, refl, rekeyed, stepped_by, subst, sym, true, ℕ, ◌==◌, ◌∙◌, ◌≡◌, ◌⊎◌}
 use Rattle.std.specs.FinMap as map
 use Rattle.store_model.specs.Sound.{IsSoundUse}
 

@@ -1,12 +1,8 @@
 -- A caller that ends, handle by handle.
-use Rattle.std.proofs.Common.{All, List, None, Option, Some, [], ap, arith, get_or, length, refl, set, subst, suc, sym, zero, ℕ, ◌++◌, ◌+◌, ◌-◌, ◌<◌, ◌∙◌, ◌∷◌, ◌≡◌, ◌≤◌}
-use Rattle.callers.proofs.Common.{All-head, All-tail, AreIdle, AreOperations, ArePairs, begins_itself, Caller, entries_of, Entry, get_or-set_other, get_or-set_same, Handles, Inactive, is_active, IsAt, IsBack, IsChanged, IsOperation, IsRetired, IsRetiring, leases_of, Legal, MakesNoCall, MayGoBack, operation_at, OperationHandle, Pairs, pairs_of, Reading, View, with_operation_at, World}
-use Rattle.std.specs.Option.{IfSome}
+use Rattle.callers.proofs.Common.{All, All-head, All-tail, AreIdle, AreOperations, ArePairs, Caller, Entry, Handles, IfSome, Inactive, IsAt, IsBack, IsChanged, IsOperation, IsRetired, IsRetiring, Legal, List, MakesNoCall, MayGoBack, None, OperationHandle, Option, Pairs, Reading, Some, View, World, [], ap, arith, begins_itself, entries_of, get_or, get_or-set_other, get_or-set_same, is_active, leases_of, length, operation_at, pairs_of, refl, set, subst, suc, sym, with_operation_at, zero, ℕ, ◌++◌, ◌+◌, ◌-◌, ◌<◌, ◌∙◌, ◌∷◌, ◌≡◌, ◌≤◌}
 use mathlib.Core.Logic.{dite}
 use native.Mathlib.Decide.{dec_lt}
-use Rattle.callers.proofs.Changing.{length_alike}
-use Rattle.callers.proofs.Handling.{left, may_go_back}
-use Rattle.callers.proofs.Journeys.{begins_through}
+use Rattle.callers.proofs.{Changing.length_alike, Handling.left, Handling.may_go_back, Journeys.begins_through}
 
 no_pair_left : (own : Pairs) → ArePairs own [] → own ≡ []
 no_pair_left [] are = refl
@@ -28,12 +24,7 @@ module _ {B : Type 0} where
   stays v = record { number = refl; weight = refl; calls = refl; seen = begins_itself v.seen }
 
   pub goes_on : (v u t : View Entry B) → MakesNoCall v u → MakesNoCall u t → MakesNoCall v t
-  goes_on v u t a b = record {
-    number = b.number ∙ a.number;
-    weight = b.weight ∙ a.weight;
-    calls = b.calls ∙ a.calls;
-    seen = begins_through t.seen u.seen v.seen b.seen a.seen;
-  }
+  goes_on v u t a b = record { number = b.number ∙ a.number; weight = b.weight ∙ a.weight; calls = b.calls ∙ a.calls; seen = begins_through t.seen u.seen v.seen b.seen a.seen }
 
 module _ {D A C : Type 0} (w : World D A C) where
   -- at its end everything is wiped

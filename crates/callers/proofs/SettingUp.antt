@@ -1,6 +1,5 @@
 -- What the one-thread service makes of a setup.
-use Rattle.std.proofs.Common.{Bool, Err, None, Ok, Option, Result, Some, ap, arith, cond, false, if◌then◌else◌, not, refl, sym, true, ℕ, ◌+◌, ◌∙◌, ◌≡◌, ◌≤◌}
-use Rattle.callers.proofs.Common.{Active, AeadSetup, After, applied, bytes_of, CipherSetup, counted, creation_of, DerivationSetup, done, failed_step, goes_on, HandleCall, HandleOperation, HashSetup, Held, id_read, Inactive, InError, is_inactive, is_ok, is_setup, IsLent, IsRefused, Key, Keyed, KeyedSetup, Keyless, KeyUse, MacSetup, mark_of, may_change_keys, model_keyed_setup, model_setup, OnHandle, Operation, operation_of, Own, own_of, plain_reply, Reading, refusal, Reply, serve, Service, set_up, set_up_by, set_up_with_key, Setup, setups, Status, stays, Store, use_refusal, used_for, with_drawn, with_operation, with_own, words_used, work_begun}
+use Rattle.callers.proofs.Common.{Active, AeadSetup, After, Bool, CipherSetup, DerivationSetup, Err, HandleCall, HandleOperation, HashSetup, Held, InError, Inactive, IsLent, IsRefused, Key, KeyUse, Keyed, KeyedSetup, Keyless, MacSetup, None, Ok, OnHandle, Operation, Option, Own, Reading, Reply, Result, Service, Setup, Some, Status, Store, ap, applied, arith, bytes_of, cond, counted, creation_of, done, failed_step, false, goes_on, id_read, if◌then◌else◌, is_inactive, is_ok, is_setup, mark_of, may_change_keys, model_keyed_setup, model_setup, not, operation_of, own_of, plain_reply, refl, refusal, serve, set_up, set_up_by, set_up_with_key, setups, stays, sym, true, use_refusal, used_for, with_drawn, with_operation, with_own, words_used, work_begun, ℕ, ◌+◌, ◌∙◌, ◌≡◌, ◌≤◌}
 use Rattle.std.specs.FinMap as map
 use Rattle.psa_status.specs.declared.Status.TheVariants as status
 use Rattle.service_calls.specs.declared.handle_calls.KeylessSetup.TheVariants as keyless

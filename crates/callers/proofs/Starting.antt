@@ -1,6 +1,5 @@
 -- A caller before its first call.
-use Rattle.std.proofs.Common.{All, List, None, Some, [], ap, arith, count_by, get_or, length, refl, subst, suc, sym, vec_capacity, zero, ℕ, ◌-◌, ◌<◌, ◌∙◌, ◌∷◌, ◌≡◌, ◌≤◌}
-use Rattle.callers.proofs.Common.{All-weaker, AreIdle, AreOperations, Caller, OperationHandle, Entry, HandleOperation, Inactive, IsClear, IsHolding, IsOperation, IsOutside, IsOwnPart, IsReady, IsSoundStore, Legal, Mine, Opened, OwnCalls, RandomStream, Service, Starts, TURNS, World, caller_of, entries_of, new_pass, own_of, replay, start_of, start_own}
+use Rattle.callers.proofs.Common.{All, All-weaker, AreIdle, AreOperations, Caller, Entry, HandleOperation, Inactive, IsClear, IsHolding, IsOperation, IsOutside, IsOwnPart, IsReady, IsSoundStore, Legal, List, Mine, None, Opened, OperationHandle, OwnCalls, RandomStream, Service, Some, TURNS, World, [], ap, arith, caller_of, count_by, entries_of, get_or, length, new_pass, own_of, refl, replay, start_of, start_own, subst, suc, sym, vec_capacity, zero, ℕ, ◌-◌, ◌<◌, ◌∙◌, ◌∷◌, ◌≡◌, ◌≤◌, IsStartOf}
 use Rattle.callers.proofs.Retiring.{no_lease_left}
 
 abbrev all_inactive : List HandleOperation
@@ -29,7 +28,7 @@ four_inactive cells four idle = record {
     of i c lt at = subst (λ (x : OperationHandle). IsOperation x Inactive × (x.lease ≡ None)) (sym at) (idle i c (omega arith))
 
 module _ {D A C : Type 0} (w : World D A C) where
-  own_at_start : (start : Service) (number : ℕ) → Starts w start → IsOwnPart all_inactive 0 (own_of start number)
+  own_at_start : (start : Service) (number : ℕ) → IsStartOf w start → IsOwnPart all_inactive 0 (own_of start number)
   own_at_start start number is =
       subst (λ (s : Service). IsOwnPart all_inactive 0 (own_of s number)) (sym is.is)
       (start_own (IsOwnPart all_inactive 0) (start_of is.settings is.found) (record { drawn = refl; handles = refl; each = λ handle low high. inactive_before handle ∙ sym (inactive_at (handle - 1)) }) number)
@@ -57,7 +56,7 @@ module _ {D A C : Type 0} (w : World D A C) where
   })
 
   -- nothing was called yet
-  pub starts_ready : (c : Caller D A C) → c.pass.table_id ≡ w.lock → c.pass.me ≡ (new_pass w.opened c.number, []) → 1 ≤ c.number → c.number ≤ 16 → ((start : Service) → Starts w start → IsSoundStore start.store) →
+  pub starts_ready : (c : Caller D A C) → c.pass.table_id ≡ w.lock → c.pass.me ≡ (new_pass w.opened c.number, []) → 1 ≤ c.number → c.number ≤ 16 → ((start : Service) → IsStartOf w start → IsSoundStore start.store) →
       length c.handles.list.items ≡ 4 → AreIdle c.handles.list.items → length c.spares.items ≡ 5 → All IsClear c.spares.items → 5 ≤ vec_capacity c.spares →
       c.stream ≡ record { seed = w.opened.seed.value; caller = c.number; place = 0 } → c.spent ≡ 0 → IsReady w 0 c
   starts_ready c table me first last sound four idle five clear room stream none =

@@ -1,15 +1,9 @@
 -- A caller after a call on the store. For one that creates a key a slot is reserved first, and a ranked turn follows.
-use Rattle.std.proofs.Common.{Err, IfErr, IfOk, List, Ok, OnOk, Result, ap, arith, count_by, false, length, subst, sym, ℕ, ◌∙◌, ◌≡◌, ◌≤◌, None, Option, Some, [], refl, ◌+◌, ◌<◌, ◌==◌, ◌∷◌}
-use Rattle.callers.proofs.Common.{AreOperations, ArePairs, Call, Caller, DecidesBefore, Entry, FaultMark, IsAnswered, IsAt, IsCalled, IsOwnPart, IsRanked, IsReady, IsReplied, KnowsBefore, KnowsTold, known_more, Legal, OnStore, Output, Random, RandomStream, Request, SameButPass, Served, Service, Status, TellsFailure, TellsReply, World, drawn_from, draws_none, entries_of, leases_of, next_random, outcome_of, own_of, replay, serve, step, words_used, Attributes, OperationHandle, CreatesKey, HasNoFilling, IsCreated, IsLater, Opened, Pairs, View, filling_pair, names, nat_tests, pairs_of, without_pair}
+use Rattle.callers.proofs.Common.{AreOperations, ArePairs, Attributes, Call, Caller, CreatesKey, DecidesBefore, Entry, Err, FaultMark, HasNoFilling, IfErr, IfOk, IsAnswered, IsAt, IsCalled, IsCreated, IsLater, IsOwnPart, IsRanked, IsReady, IsReplied, KnowsBefore, KnowsTold, Legal, List, None, Ok, OnOk, OnStore, Opened, OperationHandle, Option, Output, Pairs, Random, RandomStream, Request, Result, SameButPass, Served, Service, Some, Status, TellsFailure, TellsReply, View, World, [], ap, arith, count_by, drawn_from, draws_none, entries_of, false, filling_pair, known_more, leases_of, length, names, nat_tests, next_random, outcome_of, own_of, pairs_of, refl, replay, serve, step, subst, sym, without_pair, words_used, ℕ, ◌+◌, ◌<◌, ◌==◌, ◌∙◌, ◌∷◌, ◌≡◌, ◌≤◌}
 use Rattle.store_model.specs.Store as model
 use Rattle.slot_table.specs.Lent as lent
-use Rattle.callers.proofs.HandleLists.{first_named, once, tally-append, tally-cons, without}
-use Rattle.callers.proofs.Journeys.{called, goes_on_before, then_called}
-use Rattle.callers.proofs.KeyReplies.{Gives}
-use Rattle.callers.proofs.Looking.{AreSpares, same_spares}
-use Rattle.callers.proofs.Owned.{undrawn_own}
-use Rattle.callers.proofs.Readying.{answered, known, outcome_is, ready}
-use Rattle.callers.proofs.Supposed.{DecidesAt, at_store, by_none}
+use Rattle.callers.proofs.{HandleLists.first_named, HandleLists.once, HandleLists.tally-append, HandleLists.tally-cons, HandleLists.without, Journeys.called, Journeys.goes_on_before, Journeys.then_called, KeyReplies.Gives}
+use Rattle.callers.proofs.{Looking.AreSpares, Looking.same_spares, Owned.undrawn_own, Readying.answered, Readying.known, Readying.outcome_is, Readying.ready, Supposed.DecidesAt, Supposed.at_store, Supposed.by_none}
 
 -- no such call draws
 abbrev pub DrawsNone : Call → Type 0

@@ -1,10 +1,8 @@
 -- The service by which a caller's call is answered, also where the history isn't told: with a store by which its turn was decided,
 -- and of the caller's own what the caller has.
-use Rattle.std.proofs.Common.{List, false, [], ap, arith, get_or, length, length-append, refl, set, subst, sym, ℕ, ◌++◌, ◌+◌, ◌-◌, ◌∙◌, ◌∷◌, ◌≡◌, ◌≤◌}
-use Rattle.callers.proofs.Common.{Caller, counted, DecidesAfter, DecidesBefore, Entry, FaultMark, get_or-set_same, HandleOperation, Inactive, IsCalled, IsReady, IsSound, IsSoundOperation, IsSoundStore, IsToldTo, known_more, KnowsBefore, KnowsTold, leaves_shared, may_change_keys, next_bytes, next_random, operation_at, operation_of, outcome_of, Own, own_of, random_bytes, replay, replay_push, Request, Service, set-get_or, Settings, start_of, Starts, Store, with_own, World}
+use Rattle.callers.proofs.Common.{Caller, DecidesAfter, DecidesBefore, Entry, FaultMark, HandleOperation, Inactive, IsCalled, IsReady, IsSound, IsSoundOperation, IsSoundStore, KnowsBefore, KnowsTold, List, Own, Request, Service, Settings, Store, World, [], ap, arith, counted, false, get_or, get_or-set_same, known_more, leaves_shared, length, length-append, may_change_keys, next_bytes, next_random, operation_at, operation_of, outcome_of, own_of, random_bytes, refl, replay, replay_push, set, set-get_or, start_of, subst, sym, with_own, ℕ, ◌++◌, ◌+◌, ◌-◌, ◌∙◌, ◌∷◌, ◌≡◌, ◌≤◌, IsStartOf, ToldBy}
 use Rattle.store_model.proofs.Sound.{counted_sound}
-use Rattle.callers.proofs.Owned.{set_own, sound_replay}
-use Rattle.callers.proofs.Readying.{known, settings_stay}
+use Rattle.callers.proofs.{Owned.set_own, Owned.sound_replay, Readying.known, Readying.settings_stay}
 
 -- STORES BY WHICH A TURN WAS DECIDED
 
@@ -25,11 +23,11 @@ module _ {D A C : Type 0} (w : World D A C) where
     pub store : Store
     pub settings : store.settings ≡ start.store.settings
     pub sound : IsSoundStore (counted store)
-    pub replayed : IsToldTo w start (before ++ e ∷ []) → store ≡ (replay start before).store
+    pub replayed : ToldBy w start (before ++ e ∷ []) → store ≡ (replay start before).store
     pub holds : P store
 
   abbrev pub DecidesAt : (Store → Type 0) → List Entry → Entry → Type 0
-  DecidesAt P before e = (start : Service) → Starts w start → HasStoreBefore start P before e
+  DecidesAt P before e = (start : Service) → IsStartOf w start → HasStoreBefore start P before e
 
   module _ {before : List Entry} {e : Entry} where
     pub by_before : {P : Store → Type 0} → DecidesBefore w P before e → DecidesAt P before e
@@ -55,7 +53,7 @@ module _ {D A C : Type 0} (w : World D A C) where
 
 module _ {D A C : Type 0} (w : World D A C) (n : ℕ) (old new : Caller D A C) (r : IsReady w n old) (turns : ℕ) (call : Request) (mark : FaultMark) (rank : ℕ) (before : List Entry) (e : Entry)
     (c : IsCalled old.pass.me.0 new.pass.me.0 turns call mark rank before e) where
-  sound_there : (start : Service) → Starts w start → IsSound (replay start before)
+  sound_there : (start : Service) → IsStartOf w start → IsSound (replay start before)
   sound_there start is = sound_replay start (start_of is.settings is.found) before is.is (r.sound start is) c.goes_on.signed
 
   -- where nothing was decided, the replay's store does

@@ -1,12 +1,10 @@
 -- What the one-thread service makes of a call in one part with a key.
-use Rattle.std.proofs.Common.{Err, List, Some, [], ap, arith, false, subst, sym, true, ℕ, ◌∙◌, ◌≡◌, ◌≤◌}
-use Rattle.callers.proofs.Common.{Call, FaultMark, HandleOperation, IsLent, IsOwnPart, IsRefused, IsSound, KeyUse, KeyedCall, OnStore, Outcome, Plain, Random, Reading, Service, Status, Store, bytes_of, computed_by, computed_unless, counted, is_of_element, is_opaque_key, keyed, mark_of, may_change_keys, model_keyed_call, next_random, own_of, refused, serve, service_start, step, use_refusal, wanted_by, with_computed, words_used}
+use Rattle.callers.proofs.Common.{Call, Err, FaultMark, HandleOperation, IsLent, IsOwnPart, IsRefused, IsSound, KeyUse, KeyedCall, List, OnStore, Outcome, Plain, Random, Reading, Service, Some, Status, Store, [], ap, arith, bytes_of, computed_by, computed_unless, counted, false, is_of_element, is_opaque_key, keyed, mark_of, may_change_keys, model_keyed_call, next_random, own_of, refused, serve, step, subst, sym, true, use_refusal, wanted_by, with_computed, words_used, ℕ, ◌∙◌, ◌≡◌, ◌≤◌, service_of, start_of}
 use Rattle.std.specs.FinMap as map
 use Rattle.psa_status.specs.declared.Status.TheVariants as status
 use Rattle.store_model.specs.KeyUse as held
 use Rattle.single_part.proofs.Keys.{keyed as reads}
-use Rattle.callers.proofs.KeyReplies.{Gives, refusal_gives}
-use Rattle.callers.proofs.Owned.{failed_own, stored_own}
+use Rattle.callers.proofs.{KeyReplies.Gives, KeyReplies.refusal_gives, Owned.failed_own, Owned.stored_own}
 
 -- the key of an identifier isn't the secure element's, or that doesn't compute such calls
 abbrev pub IsLocal : KeyedCall → (id : ℕ) → Store → Type 0
@@ -14,7 +12,7 @@ IsLocal asked id store = is_of_element asked ≡ true → is_opaque_key (map.get
 
 -- such a call changes no key
 pub quiet_call : (asked : KeyedCall) (id room : ℕ) → may_change_keys (OnStore (model_keyed_call asked id room)) ≡ false
-quiet_call asked id room = (reads (service_start (record { seed = []; labels = []; locations = [] }) []) 1 asked id room).1
+quiet_call asked id room = (reads (service_of (start_of (record { seed = []; labels = []; locations = [] }) [])) 1 asked id room).1
 
 -- what a call is served so leaves a caller's own part, and answers
 pub record IsRefusal (service : Service) (caller : ℕ) (call : Call) (mark : FaultMark) (why : Status) : Type 0 where

@@ -29,13 +29,6 @@ abbrev pub IsReplied : Result Output Status → (old new : List ℕ) → Reply �
 IsReplied result old new reply = AnswersReply result reply × (new ≡ buffer_after old reply)
 
 module _ {D A C : Type 0} (w : World D A C) where
-  -- a start that the opening permits, and a history from it that is told
-  abbrev pub Starts : Service → Type 0
-  Starts start = IsStartOf w start
-
-  abbrev pub IsToldTo : Service → List Entry → Type 0
-  IsToldTo start h = ToldBy w start h
-
   abbrev pub Legal : List Entry → Type 0
   Legal h = IsLegal w h
 
@@ -45,12 +38,12 @@ module _ {D A C : Type 0} (w : World D A C) where
     pub service : Service
     pub settings : service.store.settings ≡ start.store.settings
     pub sound : IsSoundStore (counted service.store)
-    pub replayed : IsToldTo start (before ++ e ∷ []) → service ≡ replay start before
+    pub replayed : ToldBy w start (before ++ e ∷ []) → service ≡ replay start before
     pub holds : P service
 
   -- P holds of a one-thread service before an entry, from each start: of the replay's, as far as the history with the entry is told
   abbrev pub KnowsBefore : (Service → Type 0) → List Entry → Entry → Type 0
-  KnowsBefore P before e = (start : Service) → Starts start → HasService start P before e
+  KnowsBefore P before e = (start : Service) → IsStartOf w start → HasService start P before e
 
   -- what the reply is made of is told: the devices tell their keys, or the secure element isn't asked
   abbrev pub TellsReply : Service → (caller : ℕ) → Request → Type 0
@@ -58,7 +51,7 @@ module _ {D A C : Type 0} (w : World D A C) where
 
   -- the result tells of a device that failed exactly where the mark does, from whatever start
   abbrev pub TellsFailure : Result Output Status → FaultMark → Type 0
-  TellsFailure result mark = (start : Service) → Starts start → failure_in result ≡ failure_marked mark
+  TellsFailure result mark = (start : Service) → IsStartOf w start → failure_in result ≡ failure_marked mark
 
   -- The call has its entry at the place r of what the caller has then seen. Result and output buffer are those that a one-thread
   -- service gives there, as far as what the secure element computes is told: the replay's, as far as the history is. The result

@@ -3,8 +3,8 @@ use Rattle.std.specs.Prelude.{◌≡◌, ◌≤◌, ℕ, ◌+◌, ◌*◌, ◌^�
 use Rattle.secret_bytes.specs.Buffer.{IsClear}
 use Rattle.turn_history.specs.Prelude.{entries_of, TURNS}
 use Rattle.store_model.specs.Prelude.{Inactive, HandleOperation, Own, Service, own_of, IsSoundStore, replay}
-use Rattle.locked_store.specs.Prelude.{IsAt, World}
-use Rattle.callers.specs.Called.{IsToldTo, Legal, Starts}
+use Rattle.locked_store.specs.Prelude.{IsAt, World, IsStartOf, ToldBy}
+use Rattle.callers.specs.Called.{Legal}
 use Rattle.callers.specs.Handles.{AreOperations, ArePairs, busy, leases_of, operation_at}
 use Rattle.callers.specs.declared.caller.Caller.{Caller}
 
@@ -25,10 +25,10 @@ module _ {D A C : Type 0} (w : World D A C) where
     pub last : c.number ≤ 16
     pub one : c.pass.me.0.weight ≡ 1
     pub legal : Legal w (entries_of c.pass.me.0.seen)
-    pub sound : (start : Service) → Starts w start → IsSoundStore start.store
+    pub sound : (start : Service) → IsStartOf w start → IsSoundStore start.store
     pub operations : List HandleOperation
     pub stand : AreOperations c.handles.list.items operations
-    pub own : (start : Service) → Starts w start → IsToldTo w start (entries_of c.pass.me.0.seen) →
+    pub own : (start : Service) → IsStartOf w start → ToldBy w start (entries_of c.pass.me.0.seen) →
         IsOwnPart operations c.stream.place (own_of (replay start (entries_of c.pass.me.0.seen)) c.number)
     pub leases : ArePairs c.pass.me.0.holding (leases_of c.handles.list.items)
     pub clear : All IsClear c.spares.items

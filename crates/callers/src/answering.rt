@@ -83,6 +83,7 @@ impl<D: Disk, A: Devices, C: Admission> Caller<D, A, C> {
     }
 
     // Serves a call that has counted once.
+    #[inline(always)]
     fn serve<R: Wait, G: Gate>(
         &mut self,
         rt: &R,

@@ -32,16 +32,13 @@ use slot_table::Lease;
 use std::sync::Wait;
 
 // The initialisation vector that a call would draw next, where the secure element may compute on it. Nothing is drawn.
-fn next_vector(asked: &Computation<'_>, stream: &mut Stream) -> [u8; 16]
-    requires words { stream.old.place + 256 ≤ 2 ^ 60 }
-    ensures vector { (takes_vector asked.now.call && is_of_element asked.now.call) ≡ true → result ≡ next_bytes stream.old 16 }
-    ensures same { stream.new ≡ stream.old }
+fn next_vector(asked: &Computation<'_>, stream: &Stream) -> [u8; 16]
+    requires words { stream.now.place + 256 ≤ 2 ^ 60 }
+    ensures { (takes_vector asked.now.call && is_of_element asked.now.call) ≡ true → result ≡ next_bytes stream.now 16 }
 {
     let mut vector = [0; 16];
     if asked.needs_vector() {
-        let place = stream.place();
-        stream.fill(&mut vector);
-        stream.go_back(place);
+        stream.peek(&mut vector);
     }
     vector
 }
@@ -97,7 +94,7 @@ impl<D: Disk, A: Devices, C: Admission> Caller<D, A, C> {
         ensures handles { self.new.handles ≡ self.old.handles }
     {
         let asked = Computation::of(*asked);
-        let vector = next_vector(&asked, &mut self.stream);
+        let vector = next_vector(&asked, &self.stream);
         match asked.element_call(&vector) {
             Some(element) => self.compute_or_look(rt, shared, gate, call, &asked, &element, out),
             None => self.look_and_compute(rt, shared, gate, call, &asked, out),

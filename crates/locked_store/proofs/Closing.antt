@@ -1,6 +1,5 @@
 -- What is known once all passes are handed in.
-use Rattle.std.proofs.Common.{All, List, Option, inl, subst, ℕ, ◌<◌, ◌∙◌, ◌≡◌, ◌≤◌}
-use Rattle.locked_store.proofs.Common.{caller_of, calls_by, course_of, durable_keys, entries_of, Entry, HasKeyOrIsClosed, HasKeyOrZeros, HoldsHistory, IsClosed, Pairs, StartsWith, Store, World}
+use Rattle.locked_store.proofs.Common.{All, Entry, HasKeyOrIsClosed, HasKeyOrZeros, HoldsHistory, IsClosed, List, Option, Pairs, StartsWith, Store, World, caller_of, calls_by, course_of, durable_keys, entries_of, inl, subst, ℕ, ◌<◌, ◌∙◌, ◌≡◌, ◌≤◌}
 use Rattle.turn_history.specs.declared.pass.Account.{Account}
 use Rattle.store_model.specs.Store as model
 use Rattle.store_core.proofs.Freeing.{freed_zeros}

@@ -2,15 +2,14 @@
 pub use Rattle.atomic_table.specs.declared.shared.Seat.{Seat}
 pub use Rattle.key_policy.specs.Uses.{FitsUse, use_refusal}
 pub use Rattle.key_slots.specs.Holdings.{AreHoldings, Gains, IsHolding, Pairs, named, names, same}
-pub use Rattle.locked_store.specs.Closed.{IsClosed}
-pub use Rattle.locked_store.specs.Shared.{world}
+pub use Rattle.locked_store.specs.Prelude.{IsClosed, World, world, world_of}
 unfoldable pub use Rattle.locked_store.specs.Shared.{lock_of, opened_of}
 pub use Rattle.locked_store.specs.Standing.{HoldsHistory, caller_of}
 pub use Rattle.locked_store.specs.Turning.{CreatesKey, DecidesAfter, DecidesBefore, GoesOn, HasNoFilling, HasRoomForLease, IsAt, IsBegun, IsEntered, IsEnteredAfter, IsLater, IsLegal, IsOwn, IsRanked, IsStartOf, LeavesAllKeys, ReadsKey, SpendsOneTurn, ToldBy, after_change, filling_pair, lease_pair, mark_met, result_mark, turn_entry, without_pair}
-pub use Rattle.locked_store.specs.Worlds.{World, world_of}
 pub use Rattle.secret_bytes.specs.Buffer.{IsClear, bytes_of}
 pub use Rattle.secure_element_calls.specs.Answers.{mark_computed}
 pub use Rattle.service_calls.specs.Meanings.{model_request}
+pub use Rattle.std.proofs.Common.{All, Bool, Err, IfErr, IfOk, IfSome, List, None, Ok, Option, Result, Some, [], ap, append-nil, arith, cond, count_by, eqb, false, get_or, get_or-set_same, inl, inr, is_some, length, length-set, nat_lt, option_map, refl, replicate, set, subst, suc, sym, true, zero, ℕ, ⊎_elim, ◌&&◌, ◌++◌, ◌+◌, ◌-◌, ◌<◌, ◌==◌, ◌^◌, ◌∙◌, ◌∷◌, ◌≡◌, ◌≤◌}
 pub use Rattle.std.proofs.lemmas.Result.{IfErr-at_err, IfErr-weaker, IfOk-at_ok, IfOk-weaker, on_err_weaker, on_ok_weaker}
 pub use Rattle.std.specs.List.{AllByRecursion}
 pub use Rattle.store_core.proofs.Histories.{quiet_leaves, refused_leaves, told_before}
@@ -21,6 +20,5 @@ pub use Rattle.store_model.specs.Prelude.{Call, Copy, Destroy, Entry, FaultCount
 pub use Rattle.turn_history.specs.Prelude.{OwnCalls, StartsWith, after_turn, calls_by, entries_of, option_list, held_by, with_held_by}
 pub use Rattle.turn_history.specs.declared.pass.View.{View}
 pub use Rattle.psa_status.specs.declared.Status.TheVariants.{InvalidHandle, Success}
-pub use Rattle.std.specs.Prelude.{IfErr, IfOk}
 pub use Rattle.store_core.proofs.Holding.{has_model}
 pub use Rattle.turn_history.proofs.Lists.{begins_longer, entries-append, entries_fewer, entries_one}

@@ -1,6 +1,5 @@
 -- What the secure element has answered, and what a look for its key found.
-use Rattle.std.proofs.Common.{List, Option, Result, is_some, ℕ, ◌∙◌, ◌≡◌}
-use Rattle.locked_store.proofs.Common.{IsElementAnswered}
+use Rattle.locked_store.proofs.Common.{IsElementAnswered, List, Option, Result, is_some, ℕ, ◌∙◌, ◌≡◌}
 use Rattle.driver_dispatch.specs.Held.{HeldKeys}
 use Rattle.secure_element_calls.specs.declared.calls.ElementCall.{ElementCall}
 use Rattle.secure_element_calls.specs.declared.calls.NotComputed.{NotComputed}

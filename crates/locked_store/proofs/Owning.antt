@@ -1,6 +1,5 @@
 -- What one caller has out, among what all have.
-use Rattle.std.proofs.Common.{Bool, List, [], ap, arith, cond, count_by, eqb, false, get_or, get_or-set_same, length, length-set, nat_lt, refl, set, subst, suc, true, zero, ℕ, ◌&&◌, ◌+◌, ◌-◌, ◌<◌, ◌==◌, ◌∙◌, ◌∷◌, ◌≡◌, ◌≤◌}
-use Rattle.locked_store.proofs.Common.{AreHoldings, Gains, HasNoFilling, HasRoomForLease, IsHolding, Pairs, named, names, held_by, same, with_held_by, without_pair}
+use Rattle.locked_store.proofs.Common.{AreHoldings, Bool, Gains, HasNoFilling, HasRoomForLease, IsHolding, List, Pairs, [], ap, arith, cond, count_by, eqb, false, get_or, get_or-set_same, held_by, length, length-set, named, names, nat_lt, refl, same, set, subst, suc, true, with_held_by, without_pair, zero, ℕ, ◌&&◌, ◌+◌, ◌-◌, ◌<◌, ◌==◌, ◌∙◌, ◌∷◌, ◌≡◌, ◌≤◌}
 use Rattle.std.proofs.lemmas.Bool.Decides.{nat_tests}
 use Rattle.std.proofs.lemmas.List.Elements.{All-get_or, All-set}
 use Rattle.std.proofs.lemmas.List.Sums.{sum_by-cons}

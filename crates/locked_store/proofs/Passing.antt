@@ -1,6 +1,5 @@
 -- A pass in its turn and after it.
-use Rattle.std.proofs.Common.{List, Option, [], ap, arith, subst, sym, ℕ, ◌++◌, ◌+◌, ◌∙◌, ◌∷◌, ◌≡◌, ◌≤◌}
-use Rattle.locked_store.proofs.Common.{after_turn, AllByRecursion, begins_longer, caller_of, calls_by, entries-append, entries_of, entries_one, Entry, GoesOn, IsCaller, option_list, OwnCalls, Pairs, SpendsOneTurn, StartsWith, View}
+use Rattle.locked_store.proofs.Common.{AllByRecursion, Entry, GoesOn, IsCaller, List, Option, OwnCalls, Pairs, SpendsOneTurn, StartsWith, View, [], after_turn, ap, arith, begins_longer, caller_of, calls_by, entries-append, entries_of, entries_one, option_list, subst, sym, ℕ, ◌++◌, ◌+◌, ◌∙◌, ◌∷◌, ◌≡◌, ◌≤◌}
 
 -- the callers of a history with one more entry, and without it
 pub signed_push : (h : List Entry) (e : Entry) → AllByRecursion IsCaller h → IsCaller e → AllByRecursion IsCaller (h ++ e ∷ [])

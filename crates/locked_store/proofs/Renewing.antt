@@ -1,6 +1,5 @@
 -- The store before a turn and after it, and what was decided between.
-use Rattle.std.proofs.Common.{List, None, Option, Some, [], ap, append-nil, arith, false, inl, inr, is_some, length, refl, subst, sym, true, ℕ, ⊎_elim, ◌++◌, ◌∙◌, ◌∷◌, ◌≡◌, ◌≤◌}
-use Rattle.locked_store.proofs.Common.{after_change, after_turn, AllByRecursion, AreHoldings, AreRising, caller_of, DecidesAfter, entries_of, Entry, FaultMark, has_model, HasModel, HoldsHistory, id_read, IsAt, IsBegun, IsCaller, IsCaused, IsClear, IsEntered, IsEntry, IsHolding, IsLater, IsLegal, IsReading, IsStartOf, IsTold, may_change_keys, Opened, Opening, opening_of, option_list, OwnCalls, Pairs, ReadsKey, replay, Request, Seat, Service, StandsFor, Store, ToldBy, turn_entry, View, with_held_by, World}
+use Rattle.locked_store.proofs.Common.{AllByRecursion, AreHoldings, AreRising, DecidesAfter, Entry, FaultMark, HasModel, HoldsHistory, IsAt, IsBegun, IsCaller, IsCaused, IsClear, IsEntered, IsEntry, IsHolding, IsLater, IsLegal, IsReading, IsStartOf, IsTold, List, None, Opened, Opening, Option, OwnCalls, Pairs, ReadsKey, Request, Seat, Service, Some, StandsFor, Store, ToldBy, View, World, [], after_change, after_turn, ap, append-nil, arith, caller_of, entries_of, false, has_model, id_read, inl, inr, is_some, length, may_change_keys, opening_of, option_list, refl, replay, subst, sym, true, turn_entry, with_held_by, ℕ, ⊎_elim, ◌++◌, ◌∙◌, ◌∷◌, ◌≡◌, ◌≤◌}
 use Rattle.store_model.specs.Store as model
 use Rattle.locked_store.specs.declared.changes.Change.{Change}
 use Rattle.locked_store.proofs.Owning.{holding_of}

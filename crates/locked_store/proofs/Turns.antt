@@ -1,6 +1,5 @@
 -- A turn of the store, between a pass's beginning of its turn and the end.
-use Rattle.std.proofs.Common.{Err, List, None, Ok, Option, Result, Some, [], ap, arith, false, get_or, inl, inr, is_some, length, refl, subst, suc, sym, true, zero, ℕ, ⊎_elim, ◌++◌, ◌+◌, ◌-◌, ◌<◌, ◌^◌, ◌∙◌, ◌∷◌, ◌≡◌, ◌≤◌}
-use Rattle.locked_store.proofs.Common.{Adds, AddsAs, AllByRecursion, AreHoldings, AreRising, Call, Copies, Copy, created_unless, Creates, CreatesKey, DecidesAfter, DecidesBefore, Destroy, Destroys, entries_fewer, entries_of, Entry, FaultCounts, FaultMark, Gains, Gives, has_model, HasModel, HasOut, HasOutBeside, IfErr, IfOk, IsAmong, IsBegun, IsCaller, IsClear, IsEntered, IsEnteredAfter, IsEntry, IsHolding, IsOwn, IsRanked, IsTold, LeavesAllKeys, LeavesKeys, Makes, may_change_keys, named, names, NoFewerFaults, OnStore, Opened, Pairs, Plain, plain_step, quiet_leaves, Reads, ReadsAndGives, ReadsKey, refused_leaves, replay, Request, result_mark, Seat, Service, Stands, Steps, Store, Success, Takes, told_before, ToldBy, turn_entry, View, with_held_by, without_pair, World}
+use Rattle.locked_store.proofs.Common.{Adds, AddsAs, AllByRecursion, AreHoldings, AreRising, Call, Copies, Copy, Creates, CreatesKey, DecidesAfter, DecidesBefore, Destroy, Destroys, Entry, Err, FaultCounts, FaultMark, Gains, Gives, HasModel, HasOut, HasOutBeside, IfErr, IfOk, IsAmong, IsBegun, IsCaller, IsClear, IsEntered, IsEnteredAfter, IsEntry, IsHolding, IsOwn, IsRanked, IsTold, LeavesAllKeys, LeavesKeys, List, Makes, NoFewerFaults, None, Ok, OnStore, Opened, Option, Pairs, Plain, Reads, ReadsAndGives, ReadsKey, Request, Result, Seat, Service, Some, Stands, Steps, Store, Success, Takes, ToldBy, View, World, [], ap, arith, created_unless, entries_fewer, entries_of, false, get_or, has_model, inl, inr, is_some, length, may_change_keys, named, names, plain_step, quiet_leaves, refl, refused_leaves, replay, result_mark, subst, suc, sym, told_before, true, turn_entry, with_held_by, without_pair, zero, ℕ, ⊎_elim, ◌++◌, ◌+◌, ◌-◌, ◌<◌, ◌^◌, ◌∙◌, ◌∷◌, ◌≡◌, ◌≤◌}
 use Rattle.turn_history.proofs.Using.{keeps_own}
 use Rattle.key_attributes.specs.declared.Attributes.{Attributes}
 use Rattle.psa_status.specs.declared.Status.{Status}

@@ -1,6 +1,5 @@
 -- The numbers of the sessions that are dealt to a worker.
-use Rattle.std.proofs.Common.{All, Bool, IfSome, List, None, [], ap, append_assoc, arith, cond, eq-eqb, false, get_or, get_or-set_other, get_or-set_same, inl, inr, length, length-append, length-set, ne_eqb, refl, set, subst, suc, sym, take, true, vec_capacity, zero, ℕ, ◌%◌, ◌++◌, ◌+◌, ◌-◌, ◌<◌, ◌==◌, ◌∙◌, ◌∷◌, ◌≡◌, ◌≢◌, ◌≤◌}
-use Rattle.session_host.proofs.Common.{All-push, All-set, All-weaker, append-nil, AreDealt, AreKept, AreTaken, AreTurnsIn, Caller, dealt, entries_of, eqb_tells, get_or-map, get_or_append_left, get_or_push, HasAnswered, HasMade, HasSeated, HasSeen, HaveOwn, IsFrom, IsNewCaller, map-append, numbers_of, Replies, ReplyForm, Session, take_more, Worker, World}
+use Rattle.session_host.proofs.Common.{All, All-push, All-set, All-weaker, AreDealt, AreKept, AreTaken, AreTurnsIn, Bool, Caller, HasAnswered, HasMade, HasSeated, HasSeen, HaveOwn, IfSome, IsFrom, IsNewCaller, List, None, Replies, ReplyForm, Session, Worker, World, [], ap, append-nil, append_assoc, arith, cond, dealt, entries_of, eq-eqb, eqb_tells, false, get_or, get_or-map, get_or-set_other, get_or-set_same, get_or_append_left, get_or_push, inl, inr, length, length-append, length-set, map-append, ne_eqb, numbers_of, refl, set, subst, suc, sym, take, take_more, true, vec_capacity, zero, ℕ, ◌%◌, ◌++◌, ◌+◌, ◌-◌, ◌<◌, ◌==◌, ◌∙◌, ◌∷◌, ◌≡◌, ◌≢◌, ◌≤◌}
 use Rattle.session_host.proofs.Told.{no_turns}
 use Rattle.session_host.specs.Workers as working
 

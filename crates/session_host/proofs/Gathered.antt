@@ -1,6 +1,5 @@
 -- From what threads have worked to what sixteen callers have made.
-use Rattle.std.proofs.Common.{All, List, None, Option, Some, [], ap, ap₂, arith, cond, flat_map, get_or, inl, inr, length, length-append, refl, subst, suc, sym, take, true, zero, ℕ, ◌++◌, ◌+◌, ◌-◌, ◌<◌, ◌∙◌, ◌∷◌, ◌≡◌, ◌≤◌}
-use Rattle.session_host.proofs.Common.{AreAllKept, AreCallers, AreDealt, AreKept, AreStaff, AreTaken, Caller, HasMade, HasReplies, HasSeen, HasWorked, HaveKept, HaveMade, HaveOwn, HaveRun, HaveSeen, IsFrom, IsOfSession, IsOurs, AreCalledIn, Replies, ReplyForm, ReplyLine, ScriptLine, Session, Worker, World, all_replies, dealt, entries_of, get_or_default, is_success, sum_by-append, sum_by-cons, text_in}
+use Rattle.session_host.proofs.Common.{All, AreAllKept, AreCalledIn, AreCallers, AreDealt, AreKept, AreStaff, AreTaken, Caller, HasMade, HasReplies, HasSeen, HasWorked, HaveKept, HaveMade, HaveOwn, HaveRun, HaveSeen, IsFrom, IsOfSession, IsOurs, List, None, Option, Replies, ReplyForm, ReplyLine, ScriptLine, Session, Some, Worker, World, [], all_replies, ap, ap₂, arith, cond, dealt, entries_of, flat_map, get_or, get_or_default, inl, inr, is_success, length, length-append, refl, subst, suc, sum_by-append, sum_by-cons, sym, take, text_in, true, zero, ℕ, ◌++◌, ◌+◌, ◌-◌, ◌<◌, ◌∙◌, ◌∷◌, ◌≡◌, ◌≤◌}
 use Rattle.std.proofs.lemmas.Grind.{flat_map-append}
 use Rattle.session_host.proofs.Dealt.{none_made}
 

@@ -1,6 +1,5 @@
 -- A session's calls in a history that goes on, and its turns.
-use Rattle.std.proofs.Common.{Bool, List, [], ap, append_assoc, arith, cond, eq-eqb, false, filter, length, map, refl, suc, sym, true, ℕ, ◌++◌, ◌+◌, ◌==◌, ◌∙◌, ◌∷◌, ◌≡◌}
-use Rattle.session_host.proofs.Common.{append-nil, AreCalls, caller_of, calls-append, calls_by, choose, Entry, filter-append, id_given, numbered, printed, request_of, ScriptLine, StartsWith, Turn}
+use Rattle.session_host.proofs.Common.{AreCalls, Bool, Entry, List, ScriptLine, StartsWith, Turn, [], ap, append-nil, append_assoc, arith, caller_of, calls-append, calls_by, choose, cond, eq-eqb, false, filter, filter-append, id_given, length, map, numbered, printed, refl, request_of, suc, sym, true, ℕ, ◌++◌, ◌+◌, ◌==◌, ◌∙◌, ◌∷◌, ◌≡◌}
 
 -- where no entry is the session's, nothing stands for one
 

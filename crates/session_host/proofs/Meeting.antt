@@ -1,8 +1,7 @@
 -- Callers that have seen what others of their thread had.
-use Rattle.std.proofs.Common.{List, [], ap, arith, get_or, get_or-set_other, get_or-set_same, length, length-set, refl, set, subst, sym, ℕ, ◌<◌, ◌∙◌, ◌∷◌, ◌≡◌}
-use Rattle.session_host.proofs.Common.{AreKept, AreTurnsIn, Caller, ChangesAt, Entry, HasAnswered, HasLearned, IsReady, Opened, Replies, ScriptLine, Session, StartsWith, View, World, begins_itself, caller_of, calls_by, entries_of, joined, lines_of, seen_begins}
-use Rattle.callers.specs.Parts.{SameButPass}
+use Rattle.session_host.proofs.Common.{AreKept, AreTurnsIn, Caller, ChangesAt, Entry, HasAnswered, HasLearned, IsReady, List, Opened, Replies, ScriptLine, Session, StartsWith, View, World, [], ap, arith, begins_itself, caller_of, calls_by, entries_of, get_or, get_or-set_other, get_or-set_same, joined, length, length-set, lines_of, refl, seen_begins, set, subst, sym, ℕ, ◌<◌, ◌∙◌, ◌∷◌, ◌≡◌}
 use Rattle.std.specs.Global.{Vec}
+use Rattle.callers.specs.Parts.{SameButPass}
 use Rattle.session_host.proofs.Told.{own_calls, turns_later}
 
 module _ {D A C : Type 0} (w : World D A C) where

@@ -1,6 +1,5 @@
 -- What is noted of an answer, as the reply that it is.
-use Rattle.std.proofs.Common.{Err, IfOk, List, Ok, Result, [], ap, append_assoc, arith, drop, inl, inr, length, min, refl, replicate, subst, sym, take, take_all, ℕ, ◌++◌, ◌+◌, ◌-◌, ◌∙◌, ◌≡◌}
-use Rattle.session_host.proofs.Common.{ArePrintedAlike, buffer_bytes, failure_in, failure_told, Fills, id_given, IsNoted, leb_tells, Memory, NotesLine, Output, output_bytes, Replies, Reply, reply_of, Status, take-append_seam}
+use Rattle.session_host.proofs.Common.{ArePrintedAlike, Err, Fills, IfOk, IsNoted, List, Memory, NotesLine, Ok, Output, Replies, Reply, Result, Status, [], ap, append_assoc, arith, buffer_bytes, drop, failure_in, failure_told, id_given, inl, inr, leb_tells, length, min, output_bytes, refl, replicate, reply_of, subst, sym, take, take-append_seam, take_all, ℕ, ◌++◌, ◌+◌, ◌-◌, ◌∙◌, ◌≡◌}
 use Rattle.service_calls.specs.declared.output.Output.TheVariants.{Done, Identifier, Description, Bytes, Number}
 
 -- a line was noted of this reply, and its identifier handed on

@@ -1,6 +1,5 @@
 -- Calls in the order of their lines.
-use Rattle.std.proofs.Common.{Bool, List, [], ap, arith, cond, eq-eqb, eqb, false, inl, inr, length, refl, subst, sym, true, ℕ, ◌++◌, ◌+◌, ◌∷◌, ◌≡◌, ◌≤◌}
-use Rattle.session_host.proofs.Common.{append-nil, AreCalledIn, caller_of, calls_by, choose, Entry, IsInLineOrder, lines_of, ScriptLine, StartsWith}
+use Rattle.session_host.proofs.Common.{AreCalledIn, Bool, Entry, IsInLineOrder, List, ScriptLine, StartsWith, [], ap, append-nil, arith, caller_of, calls_by, choose, cond, eq-eqb, eqb, false, inl, inr, length, lines_of, refl, subst, sym, true, ℕ, ◌++◌, ◌+◌, ◌∷◌, ◌≡◌, ◌≤◌}
 
 -- what is within a list is within a longer one
 

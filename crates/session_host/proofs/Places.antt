@@ -1,6 +1,5 @@
 -- What stands for a session's calls in a history that goes on.
-use Rattle.std.proofs.Common.{Bool, List, [], ap, arith, cond, eq-eqb, eqb, false, length, map, refl, sym, true, ℕ, ◌++◌, ◌+◌, ◌∙◌, ◌∷◌, ◌≡◌}
-use Rattle.session_host.proofs.Common.{append-nil, caller_of, calls_by, Entry, of_calls, StartsWith}
+use Rattle.session_host.proofs.Common.{Bool, Entry, List, StartsWith, [], ap, append-nil, arith, caller_of, calls_by, cond, eq-eqb, eqb, false, length, map, of_calls, refl, sym, true, ℕ, ◌++◌, ◌+◌, ◌∙◌, ◌∷◌, ◌≡◌}
 use Rattle.session_host.proofs.History.{chosen_length, last_call, none_after, none_chosen}
 
 module _ {X : Type 0} (at : ℕ → Entry → X) where

@@ -1,13 +1,9 @@
 -- What is known of a run, from its opening, its callers and its close.
-use Rattle.std.proofs.Common.{All, List, ap, arith, is_some, map, subst, true, ℕ, ◌∙◌, ◌≡◌}
-use Rattle.session_host.proofs.Common.{all_replies, AreAnswered, AreBounded, ArePlain, Caller, failure_of, FaultCounts, HaveAnswered, HaveMade, HaveSeen, IsBroken, IsOfSession, IsOpening, IsRun, lines_of, Opened, Opening, opening_of, ReplyLine, Rose, ScriptLine, Turn, World, world_of}
+use Rattle.session_host.proofs.Common.{All, AreAnswered, AreBounded, ArePlain, Caller, FaultCounts, HaveAnswered, HaveMade, HaveSeen, IsBroken, IsOfSession, IsOpening, IsRun, List, Opened, Opening, ReplyLine, Rose, ScriptLine, Turn, World, all_replies, ap, arith, failure_of, is_some, lines_of, map, opening_of, subst, true, world_of, ℕ, ◌∙◌, ◌≡◌, failures_marked}
 use Rattle.atomic_table.specs.Seated.{TableId}
 use Rattle.policy_rules.specs.declared.narrowing.Label.{Label}
 use Rattle.caller_service.specs.Closing.{IsClosedOver}
-use Rattle.session_host.proofs.Bounds.{all_plain, bounded, stands_still}
-use Rattle.session_host.proofs.FaultLines.{bounded_lines}
-use Rattle.session_host.proofs.Gathered.{some_of}
-use Rattle.session_host.proofs.Whole.{first_calls, line_order, own_turns, replies_are, replies_tell, turns}
+use Rattle.session_host.proofs.{Bounds.all_plain, Bounds.bounded, Bounds.stands_still, FaultLines.bounded_lines, Gathered.some_of, Whole.first_calls, Whole.line_order, Whole.own_turns, Whole.replies_are, Whole.replies_tell, Whole.turns}
 use Rattle.disk_face.specs.declared.Disk as Disk
 use Rattle.driver_dispatch.specs.declared.devices.Devices as Devices
 use Rattle.admission.specs.declared.rules.Admission as Admission
@@ -30,10 +26,10 @@ module _ {D A C : Type 0} (disks : Disk.Ghosts D) (elements : Devices.Ghosts A) 
   abbrev after : FaultCounts
   after = record { faults = disks.faults disk_after; device_faults = elements.faults devices_after }
 
-  few_marks : AreBounded (is_some (disks.contents disk)) before.counts after closed.history
+  few_marks : AreBounded (is_some (disks.contents disk)) before.counts after (failures_marked closed.history)
   few_marks =
-      subst (λ t. AreBounded t before.counts after closed.history) opening.found.tells
-      (subst (λ c. AreBounded (is_some (disks.contents opened.file.value.cells.disk)) before.counts c closed.history) closed.left.counts
+      subst (λ t. AreBounded t before.counts after (failures_marked closed.history)) opening.found.tells
+      (subst (λ c. AreBounded (is_some (disks.contents opened.file.value.cells.disk)) before.counts c (failures_marked closed.history)) closed.left.counts
       (bounded (is_some (disks.contents opened.file.value.cells.disk)) before closed.history closed.left.legal.caused closed.left.legal.rising))
 
   plain : is_some (disks.contents disk) ≡ true → (Rose (disks.faults disk) after.faults → ⊥) → (Rose (elements.faults devices) after.device_faults → ⊥) → ArePlain closed.history

@@ -1,6 +1,5 @@
 -- The turns of the replay, and those that are told.
-use Rattle.std.proofs.Common.{All, Bool, List, [], ap, append_assoc, arith, cond, eqb, false, inl, is_some, length, length-append, map, refl, subst, sym, true, ℕ, ◌++◌, ◌+◌, ◌∙◌, ◌∷◌, ◌≡◌, ◌≤◌}
-use Rattle.session_host.proofs.Common.{All-cons, All-head, All-nil, All-tail, append-nil, AreCalls, ArePrintedAlike, AreTurnsIn, begins_through, Entry, id_given, IsTurnIn, known_told, numbered, of_calls, outcome_of, ranked_call, replay, ScriptLine, Service, Starts, StartsWith, told_front, ToldBy, Turn, turns_from, turns_of, two_beginnings, World}
+use Rattle.session_host.proofs.Common.{All, All-cons, All-head, All-nil, All-tail, AreCalls, ArePrintedAlike, AreTurnsIn, Bool, Entry, IsTurnIn, List, ScriptLine, Service, StartsWith, ToldBy, Turn, World, [], ap, append-nil, append_assoc, arith, begins_through, cond, eqb, false, id_given, inl, is_some, known_told, length, length-append, map, numbered, of_calls, outcome_of, ranked_call, refl, replay, subst, sym, told_front, true, turns_from, turns_of, two_beginnings, ℕ, ◌++◌, ◌+◌, ◌∙◌, ◌∷◌, ◌≡◌, ◌≤◌, IsStartOf}
 use Rattle.store_core.proofs.Histories.{replay_push}
 
 -- a turn of the replay: its reply is that to its entry there
@@ -45,7 +44,7 @@ same_length xs ys s le = by s.0 s.1
     by [] e = e ∙ append-nil xs
     by (x ∷ more) e = let a = ap length e in let b = length-append xs (x ∷ more) in absurd (omega (arith, a, b, le))
 
-module _ {D A C : Type 0} (w : World D A C) (start : Service) (is : Starts w start) (history : List Entry) (told : ToldBy w start history) (tells : is_some (w.devices.keys w.opened.devices.value) ≡ true) where
+module _ {D A C : Type 0} (w : World D A C) (start : Service) (is : IsStartOf w start) (history : List Entry) (told : ToldBy w start history) (tells : is_some (w.devices.keys w.opened.devices.value) ≡ true) where
   alike : (t u : Turn) → t.rank ≡ u.rank → t.entry ≡ u.entry → IsTurnIn w history t → IsReplayed start history u → ArePrintedAlike t.reply u.reply
   alike t u rank entry mine theirs =
       let long : length mine.before ≡ length theirs.before = sym mine.rank ∙ (rank ∙ theirs.rank) in

@@ -1,6 +1,6 @@
 -- What may cross threads: the workers, with the disk, the devices and the rules behind their passes, and the service, which they
 -- share with its gate. It is shown type by type, since a search through a whole type runs out of steps.
-use Rattle.session_host.proofs.Common.{Frees, IsSend, IsSync, crosses, enum_send, recorded_send, sendable}
+use Rattle.session_host.proofs.Common.{Frees, IsSend, IsSync, [], crosses, enum_send, recorded_send, sendable, ◌∷◌}
 use denote.RattleType.{RattleType}
 use denote.Enum.Enum.{Enum}
 use denote.Enum.Declared as E
@@ -10,7 +10,6 @@ use denote.Struct.Tuple.{TupleAt, type_at}
 use denote.Ref.{NamedLft}
 use denote.Builtin as builtin
 use mir.Syntax.{Sym}
-use mathlib.Core.List.{[], ◌∷◌}
 use denote.Param.SendFields.{as_row_sync, declared_send, declared_sync}
 use Rattle.std.proofs.Crossing as heap
 use Rattle.std.specs.declared.alloc.Allocator as alloc

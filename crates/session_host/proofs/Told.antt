@@ -1,9 +1,6 @@
 -- What callers and sessions know, as one more line is run.
-use Rattle.std.proofs.Common.{List, Result, [], ap, ap₂, arith, eq-eqb, length, length-append, map, ne_eqb, refl, subst, sym, ℕ, ◌++◌, ◌+◌, ◌==◌, ◌∙◌, ◌∷◌, ◌≡◌, ◌≢◌, ◌≤◌}
-use Rattle.session_host.proofs.Common.{All-nil, All-push, All-weaker, ArePrintedAlike, AreTurnsIn, begins_through, Caller, caller_of, calls_by, entries_of, Entry, failure_marked, GoesFurther, HasAnswered, HasMade, id_given, IsAnswered, IsMade, IsReady, IsReplied, IsTurnIn, known_more, lines_of, map-append, next_line, NotesLine, numbered, of_calls, Opened, outcome_of, Output, output_bytes, ranked_call, printed, Replies, Reply, reply_of, ReplyLine, Request, request_of, ScriptLine, Session, StartsWith, Status, TellsReply, Turn, View, World}
-use Rattle.session_host.proofs.History.{calls_more, kept_own, left_out, numbered_length, numbered_more}
-use Rattle.session_host.proofs.Noted.{alike, tells}
-use Rattle.session_host.proofs.Places.{one_more_of, same_later}
+use Rattle.session_host.proofs.Common.{All-nil, All-push, All-weaker, ArePrintedAlike, AreTurnsIn, Caller, Entry, GoesFurther, HasAnswered, HasMade, IsAnswered, IsMade, IsReady, IsReplied, IsTurnIn, List, NotesLine, Opened, Output, Replies, Reply, ReplyLine, Request, Result, ScriptLine, Session, StartsWith, Status, TellsReply, Turn, View, World, [], ap, ap₂, arith, begins_through, caller_of, calls_by, entries_of, eq-eqb, failure_marked, id_given, known_more, length, length-append, lines_of, map, map-append, ne_eqb, next_line, numbered, of_calls, outcome_of, output_bytes, printed, ranked_call, refl, reply_of, request_of, subst, sym, ℕ, ◌++◌, ◌+◌, ◌==◌, ◌∙◌, ◌∷◌, ◌≡◌, ◌≢◌, ◌≤◌}
+use Rattle.session_host.proofs.{History.calls_more, History.kept_own, History.left_out, History.numbered_length, History.numbered_more, Noted.alike, Noted.tells, Places.one_more_of, Places.same_later}
 
 begins_since : (old before new : List Entry) (e : Entry) → StartsWith before old → StartsWith new (before ++ e ∷ []) → StartsWith new old
 begins_since old before new e since seen =
@@ -66,13 +63,7 @@ module _ {D A C : Type 0} (w : World D A C) where
     same_number = sym after_ready.number ∙ (m.called.number ∙ before_ready.number)
 
     pub further : GoesFurther old.number old new
-    further = record {
-      before = m.before;
-      entry = m.entry;
-      since = m.called.goes_on.since;
-      by = m.called.by ∙ before_ready.number;
-      seen = m.called.placed;
-    }
+    further = record { before = m.before; entry = m.entry; since = m.called.goes_on.since; by = m.called.by ∙ before_ready.number; seen = m.called.placed }
 
     same_before : calls_by caller_of old.number m.before ≡ calls_by caller_of old.number (entries_of old.pass.me.0.seen)
     same_before = subst (λ k. calls_by caller_of k m.before ≡ old.pass.me.0.calls) before_ready.number m.called.goes_on.calls ∙ sym (own_calls old before_ready)

@@ -1,10 +1,6 @@
 -- From what callers know, and from what a closed service says, to the one order of a script's calls.
-use Rattle.std.proofs.Common.{All, List, [], ap, append_assoc, arith, cond, eqb, false, flat_map, get_or, inl, inr, length, map, ne_eqb, refl, subst, suc, sym, take, zero, ℕ, ◌++◌, ◌+◌, ◌-◌, ◌<◌, ◌∙◌, ◌∷◌, ◌≡◌, ◌≤◌, ◌⊎◌}
-use Rattle.session_host.proofs.Common.{All-head, All-nil, All-tail, all_replies, append-nil, AreCalledIn, AreTurnsIn, Caller, caller_of, calls_by, choose, entries_of, Entry, eqb_tells, failure_marked, failure_of, failure_told, failures_of, failures_to, get_or_default, HasMade, HaveAnswered, HaveSeen, IsInLineOrder, IsOfSession, IsTurnIn, leb_tells, length-map, lines_of, map-append, numbered, ranked_call, replies_to, ReplyLine, ScriptLine, Service, Starts, StartsWith, Turn, World}
-use Rattle.session_host.proofs.History.{calls_length}
-use Rattle.session_host.proofs.Places.{as_many, map_of_calls}
-use Rattle.session_host.proofs.Order.{in_line_order, within_whole}
-use Rattle.session_host.proofs.Told.{no_turns, own_calls, turns_later}
+use Rattle.session_host.proofs.Common.{All, All-head, All-nil, All-tail, AreCalledIn, AreTurnsIn, Caller, Entry, HasMade, HaveAnswered, HaveSeen, IsInLineOrder, IsOfSession, IsTurnIn, List, ReplyLine, ScriptLine, Service, StartsWith, Turn, World, [], all_replies, ap, append-nil, append_assoc, arith, caller_of, calls_by, choose, cond, entries_of, eqb, eqb_tells, failure_marked, failure_of, failure_told, failures_of, failures_to, false, flat_map, get_or, get_or_default, inl, inr, leb_tells, length, length-map, lines_of, map, map-append, ne_eqb, numbered, ranked_call, refl, replies_to, subst, suc, sym, take, zero, ℕ, ◌++◌, ◌+◌, ◌-◌, ◌<◌, ◌∙◌, ◌∷◌, ◌≡◌, ◌≤◌, ◌⊎◌, IsStartOf}
+use Rattle.session_host.proofs.{History.calls_length, Places.as_many, Places.map_of_calls, Order.in_line_order, Order.within_whole, Told.no_turns, Told.own_calls, Told.turns_later}
 
 -- SESSIONS THAT THERE ARE, AND OTHERS
 
@@ -67,7 +63,7 @@ lines_tell : (n : ℕ) (turns : List Turn) → map failure_of (numbered n turns)
 lines_tell n [] = refl
 lines_tell n (t ∷ turns) = ap (λ fs. failure_told t.reply.status ∷ fs) (lines_tell (n + 1) turns)
 
-module _ {D A C : Type 0} (w : World D A C) (start : Service) (is : Starts w start) (history : List Entry) where
+module _ {D A C : Type 0} (w : World D A C) (start : Service) (is : IsStartOf w start) (history : List Entry) where
   turns_tell : (turns : List Turn) → All (IsTurnIn w history) turns → map (λ t. failure_told t.reply.status) turns ≡ map (λ t. failure_marked t.entry.mark) turns
   turns_tell [] all = refl
   turns_tell (t ∷ turns) all = λ i. (All-head (IsTurnIn w history) t turns all).reply.failure start is i ∷ turns_tell turns (All-tail (IsTurnIn w history) t turns all) i

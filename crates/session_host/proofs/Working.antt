@@ -1,11 +1,7 @@
 -- The sessions of a thread, as a line is run.
-use Rattle.std.proofs.Common.{All, Err, IfOk, IfSome, List, MatchResult, None, Ok, Option, Result, Some, [], ap, ap₂, arith, false, get_or, get_or-set_other, get_or-set_same, inl, inr, length, length-append, length-set, map, refl, set, subst, suc, sym, take, ℕ, ◌++◌, ◌+◌, ◌-◌, ◌<◌, ◌==◌, ◌^◌, ◌∙◌, ◌∷◌, ◌≡◌, ◌≢◌, ◌≤◌, ◌⊎◌}
-use Rattle.session_host.proofs.Common.{AreApart, AreCalledIn, AreKept, ChangesAt, count_by-le-length, entries_of, eqb_tells, get_or_append_left, get_or_default, get_or_push, GoesFurther, HasAnswered, HasLearned, HasMade, HasSeen, HasWorked, HaveForm, HaveRun, IsOurs, length-filter, lines_of, Memory, numbers_of, ReplyForm, ReplyLine, ScriptLine, Session, StartsWith, take_more, Worker, World}
+use Rattle.session_host.proofs.Common.{All, AreApart, AreCalledIn, AreKept, ChangesAt, Err, GoesFurther, HasAnswered, HasLearned, HasMade, HasSeen, HasWorked, HaveForm, HaveRun, IfOk, IfSome, IsOurs, List, MatchResult, Memory, None, Ok, Option, ReplyForm, ReplyLine, Result, ScriptLine, Session, Some, StartsWith, Worker, World, [], ap, ap₂, arith, count_by-le-length, entries_of, eqb_tells, false, get_or, get_or-set_other, get_or-set_same, get_or_append_left, get_or_default, get_or_push, inl, inr, length, length-append, length-filter, length-set, lines_of, map, numbers_of, refl, set, subst, suc, sym, take, take_more, ℕ, ◌++◌, ◌+◌, ◌-◌, ◌<◌, ◌==◌, ◌^◌, ◌∙◌, ◌∷◌, ◌≡◌, ◌≢◌, ◌≤◌, ◌⊎◌}
 use Rattle.std.proofs.lemmas.Bool.{both_ways}
-use Rattle.session_host.proofs.Order.{within_more, within_whole}
-use Rattle.session_host.proofs.Told.{answered_other}
-use Rattle.session_host.proofs.History.{calls_length, numbered_length}
-use Rattle.session_host.proofs.Meeting.{item_of, learned}
+use Rattle.session_host.proofs.{Order.within_more, Order.within_whole, Told.answered_other, History.calls_length, History.numbered_length, Meeting.item_of, Meeting.learned}
 
 map_same : {X : Type 0} (f : X → ℕ) (xs ys : List X) → length ys ≡ length xs → ((k : ℕ) (d : X) → k < length xs → f (get_or ys k d) ≡ f (get_or xs k d)) → map f ys ≡ map f xs
 map_same f [] [] e h = refl

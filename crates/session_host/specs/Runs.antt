@@ -6,20 +6,22 @@ use Rattle.policy_rules.specs.declared.narrowing.Label.{Label}
 use Rattle.key_cells.specs.declared.reading.OpenFault.{OpenFault}
 use Rattle.store_model.specs.Prelude.{Service, Entry, IsSoundStore}
 use Rattle.store_core.specs.declared.store.Opened.{Opened}
-use Rattle.store_core.specs.Prelude.{opening_of}
-use Rattle.locked_store.specs.Prelude.{FindsKeysIn, IsNotOpened, IsOpenedOn, IsStartOf, World, world_of}
+use Rattle.store_core.specs.Prelude.{FindsKeysOf, opening_of}
+use Rattle.locked_store.specs.Prelude.{IsNotOpened, IsStartOf, World, world_of}
 use Rattle.caller_service.specs.Closing.{IsLeft}
 use Rattle.script_lang.specs.declared.script.ScriptLine.{ScriptLine}
 use Rattle.script_lang.specs.Prelude.{AreAllKept, ReplyLine, Turn, lines_of, replies_to}
 use Rattle.script_lang.specs.declared.replies.Replies.{Replies}
 use Rattle.script_lang.specs.declared.replies.ReplyForm.{ReplyForm}
-use Rattle.session_host.specs.Bounds.{AreBounded, AreBoundedLines, ArePlain}
+use Rattle.session_host.specs.Bounds.{AreBounded, ArePlain, failures_marked}
+use Rattle.session_host.specs.Places.{failure_of}
 use Rattle.session_host.specs.Sessions.{AreTurnsIn}
 use Rattle.session_host.specs.declared.lines.Unanswered.{Unanswered}
 use Rattle.session_host.specs.declared.lines.Unanswered.TheVariants.{NotOpened, Memory}
 use Rattle.disk_face.specs.declared.Disk as Disk
 use Rattle.driver_dispatch.specs.declared.devices.Devices as Devices
 use Rattle.admission.specs.declared.rules.Admission as Admission
+use Rattle.key_cells.specs.Prelude.{IsOpened}
 
 -- the calls of a history are made in the order of the lines
 abbrev pub IsInLineOrder : List ScriptLine → List Entry → Type 0
@@ -32,8 +34,8 @@ module _ {D A C : Type 0} (w : World D A C) where
     pub start : Service
     pub starts : IsStartOf w start
     pub sound : (start : Service) → IsStartOf w start → IsSoundStore start.store
-    pub keys : IfSome (w.disk.contents disk) (FindsKeysIn w)
-    pub found : IsOpenedOn w disk
+    pub keys : IfSome (w.disk.contents disk) (FindsKeysOf w.disk w.devices w.rules w.opened)
+    pub found : IsOpened w.disk disk w.opened.file.value.cells.disk w.opened.file.value.cells.states.items
     pub later : w.disk.faults disk ≤ w.disk.faults w.opened.file.value.cells.disk
     pub devices_are : w.opened.devices.value ≡ devices
     pub seed_is : w.opened.seed.value ≡ seed
@@ -48,7 +50,7 @@ module _ {D A C : Type 0} (disks : Disk.Ghosts D) (elements : Devices.Ghosts A) 
     pub opening : IsOpening (world_of disks elements admits lock opened) disk devices named seed
     pub history : List Entry
     pub left : IsLeft (world_of disks elements admits lock opened) history disk_after devices_after
-    pub bounded : AreBounded (is_some (disks.contents disk)) (opening_of disks elements admits opened).counts (record { faults = disks.faults disk_after; device_faults = elements.faults devices_after }) history
+    pub bounded : AreBounded (is_some (disks.contents disk)) (opening_of disks elements admits opened).counts (record { faults = disks.faults disk_after; device_faults = elements.faults devices_after }) (failures_marked history)
     pub plain : is_some (disks.contents disk) ≡ true → (Rose (disks.faults disk) (disks.faults disk_after) → ⊥) → (Rose (elements.faults devices) (elements.faults devices_after) → ⊥) → ArePlain history
 
   -- The calls of these lines were made in one order, and these are the replies, by session. Each session's calls in the order are
@@ -60,7 +62,7 @@ module _ {D A C : Type 0} (disks : Disk.Ghosts D) (elements : Devices.Ghosts A) 
     pub turns : (session : ℕ) → List Turn
     pub own : (session : ℕ) → AreTurnsIn (world_of disks elements admits run.lock run.opened) run.history session (lines_of session lines) (turns session)
     pub printed : replies ≡ replies_to 16 turns
-    pub failures : AreBoundedLines (is_some (disks.contents disk)) (opening_of disks elements admits run.opened).counts (record { faults = disks.faults disk_after; device_faults = elements.faults devices_after }) replies
+    pub failures : AreBounded (is_some (disks.contents disk)) (opening_of disks elements admits run.opened).counts (record { faults = disks.faults disk_after; device_faults = elements.faults devices_after }) (map failure_of replies)
     pub line_order : workers ≡ 1 → IsInLineOrder lines run.history
 
   -- The replies to these lines are kept in this form, those of each session by themselves.

@@ -4,10 +4,10 @@ use Rattle.turn_history.specs.declared.pass.View.{View}
 use Rattle.turn_history.specs.Prelude.{entries_of, StartsWith}
 use Rattle.store_model.specs.Prelude.{Reply, FaultMark, Service, Request, Entry, outcome_of}
 use Rattle.store_core.specs.declared.store.Opened.{Opened}
-use Rattle.callers.specs.Called.{IsCalled, KnowsBefore, Starts, TellsReply}
+use Rattle.callers.specs.Called.{IsCalled, KnowsBefore, TellsReply}
 use Rattle.callers.specs.Failures.{failure_marked, failure_told}
 use Rattle.callers.specs.Ready.{IsReady}
-use Rattle.locked_store.specs.Prelude.{World}
+use Rattle.locked_store.specs.Prelude.{World, IsStartOf}
 use Rattle.callers.specs.declared.caller.Caller.{Caller}
 use Rattle.script_lang.specs.declared.script.ScriptLine.{ScriptLine}
 use Rattle.script_lang.specs.Prelude.{AreCalls, AreKept, ReplyLine, lines_of, numbered, Turn, id_given}
@@ -36,7 +36,7 @@ module _ {D A C : Type 0} (w : World D A C) where
   -- device that failed exactly where the entry's mark does.
   pub record IsReplyTo (before : List Entry) (e : Entry) (reply : Reply) : Type 0 where
     pub replied : KnowsBefore w (λ service. TellsReply w service e.caller e.call → ArePrintedAlike reply (outcome_of service e).reply) before e
-    pub failure : (start : Service) → Starts w start → failure_told reply.status ≡ failure_marked e.mark
+    pub failure : (start : Service) → IsStartOf w start → failure_told reply.status ≡ failure_marked e.mark
 
   -- A turn is one of a history: its entry stands there at its rank, with its reply.
   pub record IsTurnIn (h : List Entry) (t : Turn) : Type 0 where

@@ -1,9 +1,7 @@
 -- The rule at the making and at the end of a lock.
-use Rattle.std.proofs.Common.{List, Option, Some, [], ap, arith, false, get_or, inl, inr, length, refl, replicate, subst, suc, sym, zero, ℕ, ⊎_elim, ◌++◌, ◌-◌, ◌<◌, ◌∙◌, ◌∷◌, ◌≡◌, ◌≢◌, ◌≤◌}
-use Rattle.turn_history.proofs.Common.{All-nil, Away, Closing, LockState, Enters, Final, Holding, Home, Kept, Knows, Mine, Seen, View, at_longer, at_set, came, dite, entries_of, first_view, get_elem?, length-replicate, none, opening, held_by, some, some-ne-none, spent, step, ℕ_discrete}
+use Rattle.turn_history.proofs.Common.{All-nil, Away, Closing, Enters, Final, Holding, Home, Kept, Knows, List, LockState, Mine, Option, Seen, Some, View, [], ap, arith, at_longer, at_set, came, dite, entries_of, false, first_view, get_elem?, get_or, held_by, inl, inr, length, length-replicate, none, opening, refl, replicate, some, some-ne-none, spent, step, subst, suc, sym, zero, ℕ, ℕ_discrete, ⊎_elim, ◌++◌, ◌-◌, ◌<◌, ◌∙◌, ◌∷◌, ◌≡◌, ◌≢◌, ◌≤◌}
 use mathlib.Core.Option as maybe
-use Rattle.turn_history.proofs.Lists.{at_snoc_end, total_two, total_snoc}
-use Rattle.turn_history.proofs.Keeping.{Signed, knows_nothing, no_pass, place_kept, same_at, some_same}
+use Rattle.turn_history.proofs.{Lists.at_snoc_end, Lists.total_two, Lists.total_snoc, Keeping.Signed, Keeping.knows_nothing, Keeping.no_pass, Keeping.place_kept, Keeping.same_at, Keeping.some_same}
 
 module _ {V E B : Type 0} (by : E → ℕ) (stands : V → List E → List Holding → Type 0) (base : V → B) (key : B) (passes : ℕ) where
   pub opens : (x : V) → 0 < passes → passes ≤ 16 → stands x [] (replicate passes []) → base x ≡ key → Kept by stands base key passes (opening (0 ∷ 0 ∷ []) (Some x ∷ []) (first_view key passes))

@@ -1,17 +1,12 @@
 -- A join keeps the rule.
-use Rattle.std.proofs.Common.{All, List, Option, [], ap, arith, cond, false, get_or, inl, inr, length, length-append, refl, set, subst, suc, sym, true, true≢false, ℕ, ⊎_elim, ◌++◌, ◌+◌, ◌<◌, ◌∙◌, ◌∷◌, ◌≡◌, ◌≢◌, ◌⊎◌}
-use Rattle.turn_history.proofs.Common.{Account, All-append, All-cons, All-nil, Allows, LockState, Holding, Joins, Kept, Knows, Mine, Remembers, StartsWith, State, View, account, at_set, calls_by, compared, dec_lt, dite, entries_of, gathering, get_elem?, keeps, longer, merged, none, held_by, set_else, some, spent, step, ℕ_discrete}
-use Rattle.std.proofs.lemmas.Bool.{le-ltb, lt-ltb}
-use Rattle.turn_history.proofs.Lists.{put, put_here, put_else, two_beginnings, between, total_set}
-use Rattle.turn_history.proofs.Keeping.{loaded, quiet, later, place_kept, place_stays, knows_nothing, all_set, nobody_still, same_at, there_still}
+use Rattle.turn_history.proofs.Common.{Account, All, All-append, All-cons, All-nil, Allows, Holding, Joins, Kept, Knows, List, LockState, Mine, Option, Remembers, StartsWith, State, View, [], account, ap, arith, at_set, calls_by, compared, dec_lt, dite, entries_of, false, gathering, get_elem?, get_or, held_by, inl, inr, keeps, length, length-append, longer, merged, none, refl, set, set_else, some, spent, step, subst, suc, sym, true, true≢false, ℕ, ℕ_discrete, ⊎_elim, ◌++◌, ◌+◌, ◌<◌, ◌∙◌, ◌∷◌, ◌≡◌, ◌≢◌, ◌⊎◌}
+use Rattle.turn_history.proofs.Lists.{put, put_here, put_else, two_beginnings, between, longer_by, total_set}
+use Rattle.turn_history.proofs.Keeping.{loaded, quiet, later, place_kept, place_stays, knows_nothing, all_set, knows_seated, nobody_still, same_at, there_still}
 
 module _ {V E B : Type 0} (by : E → ℕ) (stands : V → List E → List Holding → Type 0) (base : V → B) (key : B) (passes : ℕ) where
   longer_whole : (whole a b : List (Option E)) → a ≡ whole → StartsWith whole b → longer a b ≡ whole
-  longer_whole whole a b is st = let n = length-append b st.0 in let w = ap (λ (l : List (Option E)). length l) st.1 in let la = ap (λ (l : List (Option E)). length l) is in
-      ap (λ c. cond c b a) (le-ltb (length a) (length b) (omega arith)) ∙ is
-
-  longer_one : (P : List (Option E) → Type 0) (a b : List (Option E)) → P a → (length a < length b → P b) → P (longer a b)
-  longer_one P a b pa pb = dite (dec_lt (length a) (length b)) (λ lt. subst (λ c. P (cond c b a)) (sym (lt-ltb (length a) (length b) lt)) (pb lt)) (λ ge. subst (λ c. P (cond c b a)) (sym (le-ltb (length a) (length b) (omega arith))) pa)
+  longer_whole whole a b is st = longer_by (λ l. l ≡ whole) a b (λ _. is)
+      (λ lt. let n = length-append b st.0 in let w = ap (λ (l : List (Option E)). length l) st.1 in let la = ap (λ (l : List (Option E)). length l) is in absurd (omega arith))
 
   joins_kept : (s : State (Option V) (View E B)) (k : Kept by stands base key passes s) (id other : ℕ) (v w both : View E B) (seat' : ℕ → ℕ) → get_elem? s.views id ≡ some v → other ≢ id → get_elem? s.views other ≡ some w
       → both.number ≡ v.number → both.in_turn ≡ v.in_turn → both.turns_left ≡ v.turns_left + w.turns_left → both.weight ≡ v.weight + w.weight → w.in_turn ≡ false → w.holding ≡ []
@@ -38,17 +33,7 @@ module _ {V E B : Type 0} (by : E → ℕ) (stands : V → List E → List Holdi
             (knows_nothing by stands base key passes r' other)
             (λ j u far e. ⊎_elim
             (λ (x : (j ≡ id) × (both ≡ u)). subst (λ (y : ℕ × View E B). Knows by r' y.0 y.1) (λ i. (sym x.0 i, x.1 i)) mine)
-            (λ (x : (j ≢ id) × (get_elem? s.views j ≡ some u)). let theirs = k.each j u x.1 in record {
-              seen = theirs.seen;
-              based = theirs.based;
-              numbered = λ z. let a = theirs.numbered z in (seats u.number z (foreign u.number j z a.0 far) ∙ a.0, a.1, a.2, a.3);
-              called = theirs.called;
-              has = theirs.has;
-              waits = theirs.waits;
-              in_its_turn = theirs.in_its_turn;
-              makes = theirs.makes;
-              accounts = λ q d lt. let a = theirs.accounts q d lt in let g = get_or u.accounts q d in record { seen = a.seen; called = λ z. let b = a.called z in (seats g.number z (foreign g.number j z b.0 far) ∙ b.0, b.1, b.2, b.3) };
-            }) (at_set s.views id j both u e));
+            (λ (x : (j ≢ id) × (get_elem? s.views j ≡ some u)). knows_seated by stands base key passes r r.made seat' j u (omega arith) (λ n some_n _ is. seats n some_n (foreign n j some_n is far)) (λ _. refl) (k.each j u x.1)) (at_set s.views id j both u e));
         place = place_kept by stands base key passes s r r' s.words (set vs other spent) refl refl refl
             (λ nobody. nobody_still by stands base key passes vs other spent refl (λ j u _ e. nobody_still by stands base key passes s.views id both (turn ∙ nobody id v at) (λ i x _ th. nobody i x th) j u e))
             (λ j u at' now. let z = there_still by stands base key passes (λ (y : View E B). y.in_turn ≡ true) s.views id j v both u at (λ e. turn ∙ e) at' now in
@@ -62,12 +47,12 @@ module _ {V E B : Type 0} (by : E → ℕ) (stands : V → List E → List Holdi
   joins id other v w idle empty s k at apart e = let there = was_there s.views id other (merged v w) w apart e in let r = k.course in let mine = k.each id v at in let theirs = k.each other w there in
       joins_kept s k id other v w (merged v w) r.seat at apart there refl refl refl refl idle empty (λ n _ _. refl)
       record {
-        seen = longer_one (StartsWith r.turns) v.seen w.seen mine.seen (λ _. theirs.seen);
+        seen = longer_by (StartsWith r.turns) v.seen w.seen (λ _. mine.seen) (λ _. theirs.seen);
         based = mine.based;
         numbered = λ z. let a = mine.numbered z in let w0 = a.2 in (a.0, a.1, omega arith, a.3);
         called = λ z. let a = mine.called z in (
           a.0,
-          longer_one (λ l. calls_by by v.number (entries_of l) ≡ v.calls) v.seen w.seen a.1
+          longer_by (λ l. calls_by by v.number (entries_of l) ≡ v.calls) v.seen w.seen (λ _. a.1)
               (λ lt. between by v.number r.turns v.seen w.seen theirs.seen (two_beginnings r.turns v.seen w.seen mine.seen theirs.seen (omega arith)) (a.1 ∙ sym a.0) ∙ a.1),
         );
         has = mine.has;

@@ -1,6 +1,5 @@
 -- What a step leaves of the rule.
-use Rattle.std.proofs.Common.{All, Bool, List, None, Option, Some, [], ap, arith, false, get_or, inl, inr, length, refl, set, subst, sym, true, true≢false, ℕ, ⊎_elim, ◌+◌, ◌<◌, ◌∙◌, ◌∷◌, ◌≡◌, ◌≢◌, ◌≤◌, ◌⊎◌}
-use Rattle.turn_history.proofs.Common.{All-nil, Away, LockState, Holding, Home, Kept, Knows, Owned, Remembers, StartsWith, State, View, at_set, dite, entries_of, get_elem?, set-get_or, set_again, set_else, some, some-injective, spent, ℕ_discrete}
+use Rattle.turn_history.proofs.Common.{All, Away, Bool, Holding, Home, Kept, Knows, List, LockState, None, Option, Owned, Remembers, Some, StartsWith, State, View, [], ap, arith, at_set, dite, false, get_elem?, get_or, inl, inr, length, refl, rules, set, set-get_or, set_again, set_else, some, some-injective, spent, subst, sym, true, ℕ, ℕ_discrete, ⊎_elim, ◌+◌, ◌<◌, ◌∙◌, ◌∷◌, ◌≡◌, ◌≢◌, ◌≤◌, ◌⊎◌}
 use mathlib.Core.Option as maybe
 use Rattle.turn_history.proofs.Lists.{at_here, total_set}
 
@@ -43,15 +42,7 @@ module _ {V E B : Type 0} (by : E → ℕ) (stands : V → List E → List Holdi
       → (((j : ℕ) (u : View E B) → get_elem? s.views j ≡ some u → u.in_turn ≡ false) → (j : ℕ) (u : View E B) → get_elem? views j ≡ some u → u.in_turn ≡ false)
       → ((j : ℕ) (u : View E B) → get_elem? s.views j ≡ some u → u.in_turn ≡ true → (z : View E B) × (get_elem? views j ≡ some z) × (z.in_turn ≡ true)) → Home by stands base r s ⊎ Away by stands base s
       → Home by stands base r' record { words = words; homes = s.homes; views = views } ⊎ Away by stands base record { words = words; homes = s.homes; views = views }
-  place_kept s r r' words views t a b quiet busy place = ⊎_elim
-      (λ (h : Home by stands base r s). inl record {
-        value = h.value;
-        at_home = h.at_home;
-        stood = subst (λ (x : List (Option E) × List Holding). stands h.value (entries_of x.0) x.1) (λ i. (sym t i, sym a i)) h.stood;
-        same_base = h.same_base ∙ sym b;
-        nobody = quiet h.nobody;
-      })
-      (λ (h : Away by stands base s). let z = busy h.who h.view h.there h.turns_now in inr record { away = h.away; who = h.who; view = z.0; there = z.1; turns_now = z.2 }) place
+  place_kept s r r' words views t a b quiet busy place = search rules
 
   -- so it does where the pass keeps whether it is in its turn
   pub place_stays : (s : State (Option V) (View E B)) (r : LockState E B) (words : List ℕ) (me : ℕ) (v w : View E B) → get_elem? s.views me ≡ some v → w.in_turn ≡ v.in_turn
@@ -70,20 +61,18 @@ module _ {V E B : Type 0} (by : E → ℕ) (stands : V → List E → List Holdi
   others_quiet r t h j u more same k =
       let waits : (x : ℕ) → u.ticket ≡ Some x → (length r.turns ≤ x) × (x < t) × (h x ≡ j) × (0 < u.number) = λ x e. let a = k.waits x e in let lt = a.1 in (a.0, omega arith, same x lt ∙ a.2, a.3) in assumption
 
+  -- what a view knows stays so where further passes are made, and its own stay on their seats
+  pub knows_seated : (r : LockState E B) (made' : ℕ) (seat' : ℕ → ℕ) (j : ℕ) (u : View E B) → r.made ≤ made' → ((n : ℕ) → 0 < n → n ≤ r.made → r.seat n ≡ j → seat' n ≡ r.seat n) → (0 < u.next_number → made' ≡ r.made) → Knows by r j u → Knows by (record r { made = made'; seat = seat' }) j u
+  knows_seated r made' seat' j u more seats makers k =
+      let numbered : 0 < u.number → (seat' u.number ≡ j) × (u.number ≤ made') × (0 < u.weight) × (u.base ≡ Some r.base) = λ z. let a = k.numbered z in let le = a.1 in (seats u.number z le a.0 ∙ a.0, omega arith, a.2, a.3) in
+      let makes : 0 < u.next_number → (u.next_number ≡ made' + 1) × (r.maker ≡ j) = λ z. let a = k.makes z in (a.0 ∙ ap (λ (y : ℕ). y + 1) (sym (makers z)), a.1) in
+      let accounts : All (Remembers by r.turns seat' made' j u.number) u.accounts = λ q d lt. let a = k.accounts q d lt in
+      record { seen = a.seen; called = λ z. let b = a.called z in let le = b.2 in (seats (get_or u.accounts q d).number z le b.0 ∙ b.0, b.1, omega arith, b.3) } in assumption
+
   -- what is on a seat that is no pass's
   pub no_pass : (r : LockState E B) (j : ℕ) (w : View E B) → StartsWith r.turns w.seen → ((b : B) → w.base ≡ Some b → b ≡ r.base) → w.number ≡ 0 → w.ticket ≡ None → w.in_turn ≡ false
       → (0 < w.next_number → (w.next_number ≡ r.made + 1) × (r.maker ≡ j)) → w.accounts ≡ [] → Knows by r j w
-  no_pass r j w seen based nobody none out makes bare = record {
-    seen = seen;
-    based = based;
-    numbered = λ z. absurd (omega arith);
-    called = λ z. absurd (omega arith);
-    has = λ z. absurd (omega arith);
-    waits = λ t z. absurd (some_is_not t (sym none ∙ z));
-    in_its_turn = λ z. absurd (true≢false (sym z ∙ out));
-    makes = makes;
-    accounts = subst (All (Remembers by r.turns r.seat r.made j w.number)) (sym bare) (All-nil (Remembers by r.turns r.seat r.made j w.number));
-  }
+  no_pass r j w seen based nobody none out makes bare = search rules
 
   pub knows_nothing : (r : LockState E B) (j : ℕ) → Knows by r j spent
   knows_nothing r j = no_pass r j spent (r.turns, refl) (λ b e. absurd (some_is_not b e)) refl refl refl (λ z. absurd (omega arith)) refl

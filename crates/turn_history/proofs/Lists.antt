@@ -1,8 +1,7 @@
 -- Lists: beginnings, entries, calls and totals.
 
-use Rattle.std.proofs.Common.{All, List, None, Option, Some, [], ap, append-nil, append_assoc, arith, cond, eq-eqb, eqb, false, get_or, get_or-set_other, get_or-set_same, inl, inr, length, length-append, map, ne_eqb, refl, set, subst, suc, sym, true, zero, ℕ, ⊎_elim, ◌++◌, ◌+◌, ◌-◌, ◌<◌, ◌∙◌, ◌∷◌, ◌≡◌, ◌≢◌, ◌≤◌, ◌⊎◌}
+use Rattle.turn_history.proofs.Common.{All, Holding, List, None, Option, Some, StartsWith, [], ap, append-nil, append_assoc, arith, calls_by, choose, cond, dec_lt, dite, entries_of, eq-eqb, eqb, false, get_elem?, get_or, get_or-set_other, get_or-set_same, held_by, inl, inr, le-ltb, length, length-append, longer, lt-ltb, ne_eqb, option_list, refl, set, some, some-injective, some-ne-none, subst, suc, sym, total, true, with_held_by, zero, ℕ, ⊎_elim, ◌++◌, ◌+◌, ◌-◌, ◌<◌, ◌∙◌, ◌∷◌, ◌≡◌, ◌≢◌, ◌≤◌, ◌⊎◌}
 use Rattle.std.proofs.lemmas.List.{nil_from_length}
-use Rattle.turn_history.proofs.Common.{Holding, StartsWith, calls_by, choose, entries_of, get_elem?, option_list, held_by, some, some-injective, some-ne-none, total, with_held_by}
 
 pub put : (ℕ → ℕ) → ℕ → ℕ → ℕ → ℕ
 put f i c j = cond (eqb j i) c (f j)
@@ -66,6 +65,12 @@ module _ {E : Type 0} where
   entries-append [] ys = refl
   entries-append (None ∷ xs) ys = entries-append xs ys
   entries-append (Some e ∷ xs) ys = ap (λ l. e ∷ l) (entries-append xs ys)
+
+  -- the longer of two histories is the first or the second
+  pub longer_by : (P : List (Option E) → Type 0) (a b : List (Option E)) → (length b ≤ length a → P a) → (length a < length b → P b) → P (longer a b)
+  longer_by P a b first second = dite (dec_lt (length a) (length b))
+      (λ lt. subst (λ c. P (cond c b a)) (sym (lt-ltb (length a) (length b) lt)) (second lt))
+      (λ ge. subst (λ c. P (cond c b a)) (sym (le-ltb (length a) (length b) (omega arith))) (first (omega arith)))
 
   pub entries_fewer : (turns : List (Option E)) → length (entries_of turns) ≤ length turns
   entries_fewer [] = omega arith
@@ -138,10 +143,6 @@ module _ {A : Type 0} where
       middle : (xs : List A) → get_or (xs ++ x ∷ left) (length xs) x ≡ x
       middle [] = refl
       middle (y ∷ ys) = middle ys
-
-  pub map_snoc : {B : Type 0} (f : A → B) (xs : List A) (x : A) → map f (xs ++ x ∷ []) ≡ map f xs ++ f x ∷ []
-  map_snoc f [] x = refl
-  map_snoc f (y ∷ ys) x = ap (λ l. f y ∷ l) (map_snoc f ys x)
 
   pub append_none : (xs : List A) → xs ++ [] ≡ xs
   append_none = append-nil

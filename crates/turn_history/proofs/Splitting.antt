@@ -1,8 +1,7 @@
 -- A split keeps the rule.
-use Rattle.std.proofs.Common.{List, Option, Some, [], ap, arith, false, get_or, inl, inr, length, length-set, refl, set, subst, sym, true, true≢false, ℕ, ⊎_elim, ◌++◌, ◌+◌, ◌<◌, ◌∙◌, ◌∷◌, ◌≡◌, ◌≢◌, ◌≤◌, ◌⊎◌}
-use Rattle.turn_history.proofs.Common.{All-nil, LockState, Holding, Kept, Knows, Splits, StartsWith, State, TURNS, View, after_making, at_longer, calls_by, dite, entries_of, get_elem?, made_pass, held_by, Remembers, some, watcher, ℕ_discrete}
+use Rattle.turn_history.proofs.Common.{All-nil, Holding, Kept, Knows, List, LockState, Option, Remembers, Some, Splits, StartsWith, State, TURNS, View, [], after_making, ap, arith, at_longer, calls_by, dite, entries_of, false, get_elem?, get_or, held_by, inl, inr, length, length-set, made_pass, refl, set, some, subst, sym, true, true≢false, watcher, ℕ, ℕ_discrete, ⊎_elim, ◌++◌, ◌+◌, ◌<◌, ◌∙◌, ◌∷◌, ◌≡◌, ◌≢◌, ◌≤◌, ◌⊎◌}
 use Rattle.turn_history.proofs.Lists.{put, put_here, put_else, at_snoc_end, between, no_calls, total_set, total_snoc}
-use Rattle.turn_history.proofs.Keeping.{some_is_not, all_set, nobody_still, there_still, no_pass, place_kept}
+use Rattle.turn_history.proofs.Keeping.{knows_seated, some_is_not, all_set, nobody_still, there_still, no_pass, place_kept}
 
 module _ {V E B : Type 0} (by : E → ℕ) (stands : V → List E → List Holding → Type 0) (base : V → B) (key : B) (passes : ℕ) where
   -- a further seat, which knows as much as r' says
@@ -25,17 +24,7 @@ module _ {V E B : Type 0} (by : E → ℕ) (stands : V → List E → List Holdi
         (λ (x : (u : View E B) × (get_elem? s.views (r.seat m) ≡ some u) × (u.number ≡ m)). let z = there_still by stands base key passes (λ (u : View E B). u.number ≡ m) s.views id (r.seat m) v l x.0 at (λ e. number ∙ e) x.1 x.2 in
         let u = k.each (r.seat m) x.0 x.1 in let is = x.2 in let nu = u.numbered (omega arith) in let low = nu.1 in
         inr (z.0, at_longer vs (n ∷ []) (seat' m) z.0 (ap (get_elem? vs) (seats m (omega arith)) ∙ z.1), z.2)) (k.owned m some_m);
-    each = λ j u e. ⊎_elim (λ old. all_set by stands base key passes r' s.views id l mine (λ i x other there. let theirs = k.each i x there in record {
-      seen = theirs.seen;
-      based = theirs.based;
-      numbered = λ z. let a = theirs.numbered z in let le = a.1 in (seats x.number (omega arith) ∙ a.0, omega arith, a.2, a.3);
-      called = theirs.called;
-      has = theirs.has;
-      waits = theirs.waits;
-      in_its_turn = theirs.in_its_turn;
-      makes = λ z. let a = theirs.makes z in (a.0 ∙ ap (λ (y : ℕ). y + 1) (sym (makers i x other there z)), a.1);
-      accounts = λ q d lt. let a = theirs.accounts q d lt in record { seen = a.seen; called = λ z. let b = a.called z in let le = b.2 in (seats (get_or x.accounts q d).number (omega arith) ∙ b.0, b.1, omega arith, b.3) };
-    }) j u old)
+    each = λ j u e. ⊎_elim (λ old. all_set by stands base key passes r' s.views id l mine (λ i x other there. knows_seated by stands base key passes r made' seat' i x more (λ n _ le _. seats n le) (makers i x other there) (k.each i x there)) j u old)
         (λ (x : (n ≡ u) × (j ≡ length vs)). subst (λ (y : ℕ × View E B). Knows by r' y.0 y.1) (λ i. (sym (x.1 ∙ length-set s.views id l) i, x.0 i)) new) (at_snoc_end vs n u j e);
     place = place_kept by stands base key passes s r r' s.words (vs ++ n ∷ []) refl refl refl
         (λ nobody j u e. ⊎_elim (λ old. nobody_still by stands base key passes s.views id l (turn ∙ nobody id v at) (λ i x _ there. nobody i x there) j u old) (λ (x : (n ≡ u) × (j ≡ length vs)). ap (λ (y : View E B). y.in_turn) (sym x.0) ∙ idle) (at_snoc_end vs n u j e))

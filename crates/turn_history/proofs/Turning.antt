@@ -1,9 +1,8 @@
 -- Each step of a turn keeps the rule.
-use Rattle.std.proofs.Common.{All, Bool, List, None, Option, Some, [], ap, arith, false, get_or, inl, inr, length, length-append, length-set, refl, set, subst, sym, true, true≢false, ℕ, ⊎_elim, ◌%◌, ◌++◌, ◌+◌, ◌-◌, ◌<◌, ◌^◌, ◌∙◌, ◌∷◌, ◌≡◌, ◌≢◌, ◌≤◌}
-use Rattle.turn_history.proofs.Common.{All-append, All-cons, All-nil, Allows, Away, CanEnter, LockState, Found, Holding, Home, Kept, Knows, Mine, StartsWith, View, after_turn, calls_by, dite, drawn, ended, entered, entries_of, fronted, get_elem?, gives, homes_after, in_its_turn_at, keeps, looked, none, option_list, rest, some, step, takes, with_held_by, with_ticket, ℕ_discrete}
+use Rattle.turn_history.proofs.Common.{All, All-append, All-cons, All-nil, Allows, Away, Bool, CanEnter, Found, Holding, Home, Kept, Knows, List, LockState, Mine, None, Option, Some, StartsWith, View, [], after_turn, ap, arith, calls_by, dite, drawn, ended, entered, entries_of, false, fronted, get_elem?, get_or, gives, homes_after, in_its_turn_at, inl, inr, keeps, length, length-append, length-set, looked, none, option_list, refl, rest, rules, set, some, step, subst, sym, takes, true, true≢false, with_held_by, with_ticket, ℕ, ℕ_discrete, ⊎_elim, ◌%◌, ◌++◌, ◌+◌, ◌-◌, ◌<◌, ◌^◌, ◌∙◌, ◌∷◌, ◌≡◌, ◌≢◌, ◌≤◌}
 use mathlib.Core.Option as maybe
 use Rattle.turn_history.proofs.Lists.{put, put_here, put_else, begins_itself, begins_longer, at_here, total_set, entries-append, entries_one, calls_snoc_own, calls_snoc_other, own_here, own_else}
-use Rattle.turn_history.proofs.Keeping.{Signed, some_same, some_is_not, not_true, first_carried, all_set, nobody_still, same_at, there_still, place_stays, later, quiet, loaded, still}
+use Rattle.turn_history.proofs.Keeping.{Signed, some_same, some_is_not, not_true, all_set, nobody_still, same_at, there_still, place_stays, later, quiet, loaded, still}
 
 module _ {V E B : Type 0} (by : E → ℕ) (stands : V → List E → List Holding → Type 0) (base : V → B) (key : B) (passes : ℕ) where
   pub draws : (slots id : ℕ) (me : Mine V E B) → CanEnter me → Allows (Kept by stands base key passes) slots id me 1 (λ n. (n + 1) % 2 ^ 64) (drawn (step slots 1 1 0 none) me)
@@ -26,17 +25,7 @@ module _ {V E B : Type 0} (by : E → ℕ) (stands : V → List E → List Holdi
 
   -- a pass that sees all turns
   sees_all : (r : LockState E B) (j : ℕ) (v : View E B) (now : Bool) (held : List Holding) → Knows by r j v → (now ≡ true → (v.ticket ≡ Some (length r.turns)) × (held ≡ r.holdings)) → Knows by r j (record v { seen = r.turns; in_turn = now; holdings = held })
-  sees_all r j v now held k turn = record {
-    seen = begins_itself r.turns;
-    based = k.based;
-    numbered = k.numbered;
-    called = λ z. ((k.called z).0, (k.called z).0);
-    has = k.has;
-    waits = k.waits;
-    in_its_turn = λ z. ((turn z).0, refl, (turn z).1);
-    makes = k.makes;
-    accounts = k.accounts;
-  }
+  sees_all r j v now held k turn = search rules
 
   pub looks : (slots id : ℕ) (me : Mine V E B) (t : ℕ) → me.0.ticket ≡ Some t → me.0.in_turn ≡ false → Allows (Kept by stands base key passes) slots id me 0 (λ n. n) (looked by stands base (step slots 0 0 0 none) me)
   looks slots id me t drew out s k deep at fits = let n : ℕ = get_or s.words 0 0 in let r = k.course in let T : ℕ = r.tickets in let v = me.0 in let mine = k.each id v at in let ws = loaded by stands base key passes s k in
@@ -192,16 +181,4 @@ module _ {V E B : Type 0} (by : E → ℕ) (stands : V → List E → List Holdi
     pub found : Found by stands base m.0 value m'.0
 
   pub enters : (slots n t : ℕ) (m m1 m2 m3 m4 : Mine V E B) (result : Option V) → m.1 ≡ [] → m1 ≡ (with_ticket m.0 t, m.1) → m2 ≡ m1 → looked by stands base (step slots 0 0 0 none) m2 n m3 → n ≡ t → m3.1 ≡ (0, result) ∷ rest m3.1 → m4 ≡ (m3.0, (0, None) ∷ rest m3.1) → Entered m t result m4
-  enters slots n t m m1 m2 m3 m4 result bare drew same told is took gave = let m2_is = same ∙ drew in
-      let a = told.0 (ap (λ (y : Mine V E B). y.0.ticket) m2_is ∙ ap (λ (y : ℕ). let z : Option ℕ = Some y in z) (sym is)) in let x = a.0 in
-      let pairs : (0, result) ∷ rest m3.1 ≡ (0, Some x) ∷ m2.1 = sym took ∙ a.4 in
-      let none_else : rest m3.1 ≡ [] = ap rest a.4 ∙ (ap (λ (y : Mine V E B). y.1) m2_is ∙ bare) in
-      let view : m3.0 ≡ in_its_turn_at (with_ticket m.0 t) a.1 a.2 = a.3 ∙ ap (λ (y : Mine V E B). in_its_turn_at y.0 a.1 a.2) m2_is in
-      let f = a.5 in let v_is = ap (λ (y : Mine V E B). y.0) m2_is in let w_is : m3.0 ≡ m4.0 = sym (ap (λ (y : Mine V E B). y.0) gave) in
-      let f' : Found by stands base (with_ticket m.0 t) x m4.0 = subst (λ (y : View E B × View E B). Found by stands base y.0 x y.1) (λ i. (v_is i, w_is i)) f in
-      let now : m4 ≡ (in_its_turn_at (with_ticket m.0 t) a.1 a.2, (0, None) ∷ []) = gave ∙ (λ i. (view i, (0, None) ∷ none_else i)) in record {
-        value = x;
-        is = ap first_carried pairs;
-        now = now ∙ ap (λ (y : Mine V E B). let z : Mine V E B = (entered m.0 y.0, (0, None) ∷ []) in z) (sym now);
-        found = record { prefix = f'.prefix; own_calls = f'.own_calls; stood = f'.stood; own_holding = f'.own_holding; based = f'.based; few = f'.few; inside = f'.inside };
-      }
+  enters slots n t m m1 m2 m3 m4 result bare drew same told is took gave = search rules

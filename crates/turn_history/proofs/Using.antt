@@ -1,8 +1,6 @@
 -- What a crate above needs of a turn and of passes that meet.
-use Rattle.std.proofs.Common.{Bool, List, Option, Some, [], ap, arith, cond, eqb, eqb-true, false, length, length-append, refl, slice_get, subst, suc, sym, true, ℕ, ⊎_elim, ◌++◌, ◌+◌, ◌-◌, ◌∙◌, ◌∷◌, ◌≡◌, ◌≢◌, ◌≤◌, ◌⊎◌}
-use Rattle.turn_history.proofs.Common.{Holding, StartsWith, calls_by, choose, dec_lt, dite, entries_of, longer, held_by, set-get_or, with_held_by}
-use Rattle.std.proofs.lemmas.Bool.{le-ltb, lt-ltb}
-use Rattle.turn_history.proofs.Lists.{entries-append, begins_itself, two_beginnings}
+use Rattle.turn_history.proofs.Common.{Bool, Holding, List, Option, Some, StartsWith, [], ap, arith, calls_by, choose, entries_of, eqb, eqb-true, false, held_by, length, length-append, longer, refl, set-get_or, slice_get, suc, sym, true, with_held_by, ℕ, ⊎_elim, ◌++◌, ◌+◌, ◌-◌, ◌∙◌, ◌∷◌, ◌≡◌, ◌≢◌, ◌≤◌, ◌⊎◌}
+use Rattle.turn_history.proofs.Lists.{entries-append, begins_itself, longer_by, two_beginnings}
 
 -- nothing changes where a pass keeps what it has
 pub keeps_own : (holdings : List Holding) (n : ℕ) (own : Holding) → held_by holdings n ≡ own → with_held_by holdings n own ≡ holdings
@@ -23,17 +21,14 @@ module _ {E : Type 0} where
 
   -- the longer of two histories, one of which begins the other, begins with both
   pub longer_left : (a b : List (Option E)) → StartsWith a b ⊎ StartsWith b a → StartsWith (longer a b) a
-  longer_left a b order = dite (dec_lt (length a) (length b))
-      (λ lt. subst (λ c. StartsWith (cond c b a) a) (sym (lt-ltb (length a) (length b) lt)) (⊎_elim (λ (s : StartsWith a b). let n = ap (λ (l : List (Option E)). length l) s.1 in absurd (omega (arith, length-append b s.0))) (λ s. s) order))
-      (λ ge. subst (λ c. StartsWith (cond c b a) a) (sym (le-ltb (length a) (length b) (omega arith))) (begins_itself a))
+  longer_left a b order = longer_by (λ l. StartsWith l a) a b (λ _. begins_itself a)
+      (λ lt. ⊎_elim (λ (s : StartsWith a b). let n = ap (λ (l : List (Option E)). length l) s.1 in absurd (omega (arith, length-append b s.0))) (λ s. s) order)
 
   same_length : (whole part : List (Option E)) → StartsWith whole part → length whole ≤ length part → StartsWith part whole
   same_length whole part s le = two_beginnings whole whole part (begins_itself whole) s le
 
   pub longer_right : (a b : List (Option E)) → StartsWith a b ⊎ StartsWith b a → StartsWith (longer a b) b
-  longer_right a b order = dite (dec_lt (length a) (length b))
-      (λ lt. subst (λ c. StartsWith (cond c b a) b) (sym (lt-ltb (length a) (length b) lt)) (begins_itself b))
-      (λ ge. subst (λ c. StartsWith (cond c b a) b) (sym (le-ltb (length a) (length b) (omega arith))) (⊎_elim (λ s. s) (λ (s : StartsWith b a). same_length b a s (omega arith)) order))
+  longer_right a b order = longer_by (λ l. StartsWith l b) a b (λ le. ⊎_elim (λ s. s) (λ (s : StartsWith b a). same_length b a s le) order) (λ _. begins_itself b)
 
   module _ (by : E → ℕ) where
     -- the calls of two passes are different entries

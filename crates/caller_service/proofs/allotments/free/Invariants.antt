@@ -1,5 +1,4 @@
-use Rattle.std.proofs.Common.{All, vec_len}
-use Rattle.caller_service.proofs.Common.{IsAllotment}
+use Rattle.caller_service.proofs.Common.{All, IsAllotment, vec_len}
 use Rattle.caller_service.proofs.allotments.free.Given as goal
 
 abbrev pub invariant-loop-allotment : goal.invariant-loop-allotment

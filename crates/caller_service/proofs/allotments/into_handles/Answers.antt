@@ -1,5 +1,4 @@
-use Rattle.std.proofs.Common.{IfSome, None, ap, arith, length, option_to_list, subst, sym, ◌++◌, ◌∙◌, ◌≡◌}
-use Rattle.caller_service.proofs.Common.{All-pop, All-push, AreIdle, AreInactive, Inactive, IsOperation, length_push}
+use Rattle.caller_service.proofs.Common.{All-pop, All-push, AreIdle, AreInactive, IfSome, Inactive, IsOperation, None, ap, arith, length, length_push, option_to_list, subst, sym, ◌++◌, ◌∙◌, ◌≡◌}
 use Rattle.caller_service.proofs.allotments.into_handles.Goals as goal
 
 pub new-requires : goal.new-requires

@@ -1,5 +1,4 @@
-use Rattle.std.proofs.Common.{All, length, vec_capacity, vec_len, ◌+◌, ◌≡◌, ◌≤◌}
-use Rattle.caller_service.proofs.Common.{AreIdle, AreInactive}
+use Rattle.caller_service.proofs.Common.{All, AreIdle, AreInactive, length, vec_capacity, vec_len, ◌+◌, ◌≡◌, ◌≤◌}
 use Rattle.caller_service.proofs.allotments.into_handles.Given as goal
 
 abbrev pub invariant-loop-state : goal.invariant-loop-state

@@ -1,5 +1,4 @@
-use Rattle.std.proofs.Common.{All, ap, arith, length, subst, sym}
-use Rattle.caller_service.proofs.Common.{All-push, IsAllotment, length_push}
+use Rattle.caller_service.proofs.Common.{All, All-push, IsAllotment, ap, arith, length, length_push, subst, sym}
 use Rattle.caller_service.proofs.allotments.take.Goals as goal
 
 pub loop-preserved : goal.loop-preserved

@@ -1,5 +1,4 @@
-use Rattle.std.proofs.Common.{IfSome, [], ap, append_assoc, arith, length, map, option_to_list, reverse, subst, sym, ◌++◌, ◌∙◌, ◌∷◌, ◌≡◌}
-use Rattle.caller_service.proofs.Common.{account_of, All-pop, IsIdle, IsRetired, length_push, reverse-append}
+use Rattle.caller_service.proofs.Common.{All-pop, IfSome, IsIdle, IsRetired, [], account_of, ap, append_assoc, arith, length, length_push, map, option_to_list, reverse, reverse-append, subst, sym, ◌++◌, ◌∙◌, ◌∷◌, ◌≡◌}
 use Rattle.caller_service.proofs.closing.hand_in.Goals as goal
 
 pub into_pass-requires-clause-retired : goal.into_pass-requires-clause-retired

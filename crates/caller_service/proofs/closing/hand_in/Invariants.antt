@@ -1,5 +1,4 @@
-use Rattle.std.proofs.Common.{All, length, map, reverse, vec_len, ◌++◌, ◌+◌, ◌≡◌}
-use Rattle.caller_service.proofs.Common.{IsRetired, account_of}
+use Rattle.caller_service.proofs.Common.{All, IsRetired, account_of, length, map, reverse, vec_len, ◌++◌, ◌+◌, ◌≡◌}
 use Rattle.caller_service.proofs.closing.hand_in.Given as goal
 
 abbrev pub invariant-loop-caller : goal.invariant-loop-caller

@@ -1,5 +1,4 @@
-use Rattle.std.proofs.Common.{ap, arith, get_or, length, subst, sym, ◌<◌, ◌∙◌}
-use Rattle.caller_service.proofs.Common.{get_or_default, IsReady, MakesNoCall, world}
+use Rattle.caller_service.proofs.Common.{IsReady, MakesNoCall, ap, arith, get_or, get_or_default, length, subst, sym, world, ◌<◌, ◌∙◌}
 use Rattle.caller_service.proofs.Ended.{one_retired}
 use Rattle.caller_service.proofs.closing.retire_all.Goals as goal
 

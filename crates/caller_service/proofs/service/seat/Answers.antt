@@ -1,9 +1,7 @@
-use Rattle.std.proofs.Common.{All, IfSome, List, Option, Some, [], ap, append_assoc, arith, get_or, length, length-append, option_to_list, subst, sym, ℕ, ◌++◌, ◌+◌, ◌<◌, ◌∙◌, ◌∷◌, ◌≡◌, ◌≤◌}
-use Rattle.atomic_table.specs.Seated.{TableId}
-use Rattle.atomic_table.specs.declared.shared.Seat.{Seat}
+use Rattle.caller_service.proofs.Common.{All, All-pop, AreNew, IfSome, IsAllotment, List, Option, Some, [], ap, append_assoc, arith, get_or, length, length-append, new_pass, option_to_list, subst, sym, world, ℕ, ◌++◌, ◌+◌, ◌<◌, ◌∙◌, ◌∷◌, ◌≡◌, ◌≤◌}
+use Rattle.atomic_table.specs.{Seated.TableId, declared.shared.Seat.Seat}
 use Rattle.turn_history.specs.declared.pass.View.{View}
 use Rattle.caller_service.specs.declared.allotments.Allotment.{Allotment}
-use Rattle.caller_service.proofs.Common.{All-pop, AreNew, IsAllotment, new_pass, world}
 use Rattle.std.proofs.Math.Seq.{get_or-append_seam}
 use Rattle.caller_service.proofs.Ended.{new_each}
 use Rattle.caller_service.proofs.service.seat.Goals as goal

@@ -1,5 +1,4 @@
-use Rattle.std.proofs.Common.{All, get_or, length, vec_capacity, ℕ, ◌++◌, ◌+◌, ◌<◌, ◌≡◌, ◌≤◌}
-use Rattle.caller_service.proofs.Common.{Caller, IsNewCaller, IsAllotment, world}
+use Rattle.caller_service.proofs.Common.{All, Caller, IsAllotment, IsNewCaller, get_or, length, vec_capacity, world, ℕ, ◌++◌, ◌+◌, ◌<◌, ◌≡◌, ◌≤◌}
 use Rattle.caller_service.proofs.service.seat.Given as goal
 
 abbrev pub invariant-loop-pass : goal.invariant-loop-pass

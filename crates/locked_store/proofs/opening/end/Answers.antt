@@ -1,5 +1,4 @@
-use Rattle.std.proofs.Common.{[], replicate, subst, sym}
-use Rattle.locked_store.proofs.Common.{IsClosed, world_of}
+use Rattle.locked_store.proofs.Common.{IsClosed, [], replicate, subst, sym, world_of}
 use Rattle.locked_store.proofs.Closing.{closed}
 use Rattle.locked_store.proofs.opening.end.Goals as goal
 

@@ -1,5 +1,4 @@
-use Rattle.std.proofs.Common.{IfOk, subst, sym}
-use Rattle.session_host.proofs.Common.{IsNoted, reply_of}
+use Rattle.session_host.proofs.Common.{IfOk, IsNoted, reply_of, subst, sym}
 use Rattle.session_host.proofs.Noted.{noted}
 use Rattle.session_host.proofs.answers.note.Goals as goal
 

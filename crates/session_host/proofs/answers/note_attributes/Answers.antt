@@ -1,5 +1,4 @@
-use Rattle.std.proofs.Common.{IfOk, subst, ◌∙◌}
-use Rattle.session_host.proofs.Common.{NotesLine, Success}
+use Rattle.session_host.proofs.Common.{IfOk, NotesLine, Success, subst, ◌∙◌}
 use Rattle.session_host.proofs.answers.note_attributes.Goals as goal
 
 pub returns-in-Ok-clause-noted : goal.returns-in-Ok-clause-noted

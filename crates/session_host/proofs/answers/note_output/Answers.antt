@@ -1,5 +1,4 @@
-use Rattle.std.proofs.Common.{IfOk, Ok, refl, Result, List, ap, length, min, subst, sym, take, ℕ, ◌∙◌, ◌≡◌}
-use Rattle.session_host.proofs.Common.{IsNoted, Memory, NotesLine, Output, Replies, Status, Success, id_given, output_bytes, reply_of}
+use Rattle.session_host.proofs.Common.{IfOk, IsNoted, List, Memory, NotesLine, Ok, Output, Replies, Result, Status, Success, ap, id_given, length, min, output_bytes, refl, reply_of, subst, sym, take, ℕ, ◌∙◌, ◌≡◌}
 use Rattle.session_host.proofs.Noted.{noted, take_within}
 use Rattle.session_host.proofs.answers.note_output.Goals as goal
 

@@ -1,6 +1,4 @@
-use Rattle.std.proofs.Common.{ap, ap₂, arith, get_or, length, length-set, length-take, refl, set, subst, sym, take, ℕ, ◌%◌, ◌++◌, ◌+◌, ◌-◌, ◌<◌, ◌∙◌, ◌≡◌}
-use Rattle.session_host.proofs.Common.{HasSeated, IsNewCaller, Worker, get_or_default, mod_below, numbers_of, world}
-use Rattle.std.specs.Option.{option_to_list}
+use Rattle.session_host.proofs.Common.{HasSeated, IsNewCaller, Worker, ap, ap₂, arith, get_or, get_or_default, length, length-set, length-take, mod_below, numbers_of, option_to_list, refl, set, subst, sym, take, world, ℕ, ◌%◌, ◌++◌, ◌+◌, ◌-◌, ◌<◌, ◌∙◌, ◌≡◌}
 use Rattle.session_host.proofs.Dealt.{IsDealing, IsFreshSession, all_dealt, dealing_one, dealt_few, last_of, same_long}
 use Rattle.session_host.proofs.dealing.deal.Goals as goal
 

@@ -1,5 +1,4 @@
-use Rattle.std.proofs.Common.{length, take, vec_capacity, ◌-◌, ◌≡◌, ◌≤◌}
-use Rattle.session_host.proofs.Common.{world}
+use Rattle.session_host.proofs.Common.{length, take, vec_capacity, world, ◌-◌, ◌≡◌, ◌≤◌}
 use Rattle.session_host.proofs.Dealt.{IsDealing}
 use Rattle.session_host.proofs.dealing.deal.Given as goal
 

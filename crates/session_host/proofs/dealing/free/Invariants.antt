@@ -1,4 +1,4 @@
-use Rattle.std.proofs.Common.{All, [], vec_len, ◌≡◌}
+use Rattle.session_host.proofs.Common.{All, [], vec_len, ◌≡◌}
 use Rattle.session_host.proofs.dealing.free.Given as goal
 
 abbrev pub invariant-loop-worker : goal.invariant-loop-worker

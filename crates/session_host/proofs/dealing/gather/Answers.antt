@@ -1,5 +1,4 @@
-use Rattle.std.proofs.Common.{[], ap, ap₂, arith, get_or, length, refl, set, subst, suc, sym, ℕ, ◌%◌, ◌++◌, ◌-◌, ◌<◌, ◌∙◌, ◌∷◌, ◌≡◌, ◌≤◌}
-use Rattle.session_host.proofs.Common.{get_or_default, mod_below}
+use Rattle.session_host.proofs.Common.{[], ap, ap₂, arith, get_or, get_or_default, length, mod_below, refl, set, subst, suc, sym, ℕ, ◌%◌, ◌++◌, ◌-◌, ◌<◌, ◌∙◌, ◌∷◌, ◌≡◌, ◌≤◌}
 use Rattle.session_host.proofs.Dealt.{IsTaking, is_there, none_left, one_taken}
 use Rattle.session_host.proofs.dealing.gather.Goals as goal
 

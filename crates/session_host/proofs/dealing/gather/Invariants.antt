@@ -1,4 +1,4 @@
-use Rattle.std.proofs.Common.{length, vec_capacity, ◌-◌, ◌≡◌, ◌≤◌}
+use Rattle.session_host.proofs.Common.{length, vec_capacity, ◌-◌, ◌≡◌, ◌≤◌}
 use Rattle.session_host.proofs.Dealt.{IsTaking}
 use Rattle.session_host.proofs.dealing.gather.Given as goal
 

@@ -1,5 +1,4 @@
-use Rattle.std.proofs.Common.{All, ap, arith, length, subst, sym, ◌+◌, ◌∙◌}
-use Rattle.session_host.proofs.Common.{All-push, IsFree, length_push}
+use Rattle.session_host.proofs.Common.{All, All-push, IsFree, ap, arith, length, length_push, subst, sym, ◌+◌, ◌∙◌}
 use Rattle.session_host.proofs.dealing.new_workers.Goals as goal
 
 pub loop-preserved : goal.loop-preserved

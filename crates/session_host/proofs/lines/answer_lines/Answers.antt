@@ -1,5 +1,4 @@
-use Rattle.std.proofs.Common.{ap, arith}
-use Rattle.session_host.proofs.Common.{IsOpening, all_replies, world}
+use Rattle.session_host.proofs.Common.{IsOpening, all_replies, ap, arith, world}
 use Rattle.session_host.proofs.Ran.{answered, broken}
 use Rattle.session_host.proofs.lines.answer_lines.Goals as goal
 

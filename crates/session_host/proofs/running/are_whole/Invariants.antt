@@ -1,4 +1,4 @@
-use Rattle.std.proofs.Common.{get_or, true, ℕ, ◌<◌, ◌≡◌}
+use Rattle.session_host.proofs.Common.{get_or, true, ℕ, ◌<◌, ◌≡◌}
 use Rattle.session_host.proofs.running.are_whole.Given as goal
 
 abbrev pub invariant-loop-worker : goal.invariant-loop-worker

@@ -1,5 +1,4 @@
-use Rattle.std.proofs.Common.{◌∙◌}
-use Rattle.session_host.proofs.Common.{world}
+use Rattle.session_host.proofs.Common.{world, ◌∙◌}
 use Rattle.session_host.proofs.Gathered.{have_kept, have_made, have_seen, own_after}
 use Rattle.session_host.proofs.running.run_dealt.Goals as goal
 

@@ -1,5 +1,4 @@
-use Rattle.std.proofs.Common.{All, List, [], ap, arith, length, subst, sym, take, ℕ, ◌++◌, ◌∙◌, ◌≡◌}
-use Rattle.session_host.proofs.Common.{take-append_seam, world}
+use Rattle.session_host.proofs.Common.{All, List, [], ap, arith, length, subst, sym, take, take-append_seam, world, ℕ, ◌++◌, ◌∙◌, ◌≡◌}
 use Rattle.session_host.proofs.Gathered.{have_made_none}
 use Rattle.session_host.proofs.running.run_sessions.Goals as goal
 

@@ -1,5 +1,4 @@
-use Rattle.std.proofs.Common.{get_or, subst}
-use Rattle.session_host.proofs.Common.{HasWorked, arg_send, arg_sync, crosses, param_send, param_sync, sendable, world}
+use Rattle.session_host.proofs.Common.{HasWorked, arg_send, arg_sync, crosses, get_or, param_send, param_sync, sendable, subst, world}
 use denote.Exit.{no}
 use denote.Param.{param}
 use Rattle.std.proofs.Crossing as heap

@@ -1,5 +1,4 @@
-use Rattle.std.proofs.Common.{get_or, ℕ, ◌<◌, ◌≢◌, ◌≤◌}
-use Rattle.session_host.proofs.Common.{Session}
+use Rattle.session_host.proofs.Common.{Session, get_or, ℕ, ◌<◌, ◌≢◌, ◌≤◌}
 use Rattle.session_host.proofs.worker.place_between.Given as goal
 
 abbrev pub invariant-loop-place : goal.invariant-loop-place

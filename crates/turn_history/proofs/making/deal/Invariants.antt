@@ -1,6 +1,4 @@
-use Rattle.std.proofs.Common.{[], ◌+◌, ◌-◌, ◌≡◌}
-use Rattle.turn_history.proofs.Common.{AreNew, maker_of}
-use Rattle.std.specs.Vec.{vec_capacity}
+use Rattle.turn_history.proofs.Common.{AreNew, [], maker_of, vec_capacity, ◌+◌, ◌-◌, ◌≡◌}
 use Rattle.turn_history.proofs.making.deal.Given as goal
 
 abbrev pub invariant-loop-number : goal.invariant-loop-number

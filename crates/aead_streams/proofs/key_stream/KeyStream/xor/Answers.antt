@@ -1,15 +1,11 @@
-use Rattle.aead_streams.proofs.Common.{IsAt, List, [], aes_encrypt, ap, append-nil, ap₂, arith, drop, drop_all, length, length-drop, refl, subst, take, take_all, text_xor, ℕ, ◌++◌, ◌+◌, ◌-◌, ◌∙◌, ◌≡◌}
+use Rattle.aead_streams.proofs.Common.{IsAt, List, [], aes_encrypt, ap, append-nil, arith, drop, drop_all, length, length-drop, rules, subst, take, take_all, text_xor, ℕ, ◌++◌, ◌+◌, ◌-◌, ◌∙◌, ◌≡◌}
 use borrow.Rule.Slice.PartMut.{put_mid}
 use Rattle.aead_streams.proofs.StreamPlaces.{run_done}
 use Rattle.aead_streams.proofs.key_stream.KeyStream.xor.Goals as goal
 
 pub runs-init : goal.runs-init
 unfolding text_xor
-runs-init c = record {
-  within = omega arith;
-  text = λ width start n h. refl;
-  at = λ width start n h. subst (λ (m : ℕ). IsAt c.args.self.now (aes_encrypt c.args.key.now) width start m) (omega arith) h;
-}
+runs-init c = search rules
 
 pub runs-preserved : goal.runs-preserved
 runs-preserved c = record {
@@ -27,14 +23,4 @@ runs-preserved c = record {
       (c.xor_run-done.ensures.text width start (n + c.runs.done) (c.runs.invariant.at width start n h) ∙ ap (λ (l : List ℕ). text_xor e width start (n + c.runs.done) (take c.xor_run-done.result l) ++ drop c.xor_run-done.result l) all);
   at = λ width start n h.
       subst (λ (m : ℕ). IsAt c.xor_run-done.new.self (aes_encrypt c.args.key.now) width start m) (omega arith) (c.xor_run-done.ensures.at width start (n + c.runs.done) (c.runs.invariant.at width start n h));
-}
-
-pub returns : goal.returns
-returns c = record {
-  text = λ width start n h.
-      let e = aes_encrypt c.args.key.now in
-      let whole = c.args.piece.now in
-      c.runs.invariant.text width start n h
-      ∙ ap₂ (λ (p q : List ℕ). text_xor e width start n p ++ q) (take_all c.runs.done whole (omega arith)) (drop_all c.runs.done whole (omega arith)) ∙ append-nil (text_xor e width start n whole);
-  at = λ width start n h. subst (λ (m : ℕ). IsAt c.runs.self (aes_encrypt c.args.key.now) width start m) (omega arith) (c.runs.invariant.at width start n h);
 }

@@ -1,5 +1,5 @@
-use Rattle.aead_streams.proofs.Common.{List, aes_encrypt, ap, arith, drop, length-aes_encrypt, length-take, refl, take, ℕ, ◌++◌, ◌∙◌}
-use Rattle.aead_streams.proofs.StreamPlaces.{piece_is, moved}
+use Rattle.aead_streams.proofs.Common.{List, aes_encrypt, ap, arith, drop, length-aes_encrypt, length-take, take, ℕ, ◌++◌, ◌∙◌}
+use Rattle.aead_streams.proofs.StreamPlaces.{piece_is}
 use Rattle.aead_streams.proofs.key_stream.KeyStream.xor_part.Goals as goal
 
 pub returns-clause-text : goal.returns-clause-text
@@ -8,7 +8,3 @@ returns-clause-text c = λ width start n h.
     let whole = c.args.piece.now in
     ap (λ (l : List ℕ). l ++ drop count whole)
     (c.xor_bytes_into.ensures ∙ piece_is c.fill.new.self (aes_encrypt c.args.key.now) width start n (take count whole) (length-aes_encrypt c.args.key.now) c.fill.ensures.used (omega (arith, length-take count whole)) (c.fill.ensures.at width start n h))
-
-pub returns-clause-at : goal.returns-clause-at
-returns-clause-at c = λ width start n h.
-    moved c.fill.new.self _ (aes_encrypt c.args.key.now) width start n c.min-count.result c.fill.ensures.used (c.fill.ensures.at width start n h) refl refl refl refl (omega arith)

@@ -1,5 +1,4 @@
-use Rattle.std.proofs.Common.{None, ◌≡◌}
-use Rattle.caller_service.proofs.Common.{All-pop, Inactive, IsOperation}
+use Rattle.caller_service.proofs.Common.{All-pop, Inactive, IsOperation, None, ◌≡◌}
 use Rattle.caller_service.proofs.allotments.Allotment.free.Goals as goal
 
 pub loop-handle-preserved : goal.loop-handle-preserved

@@ -1,5 +1,4 @@
-use Rattle.std.proofs.Common.{vec_len}
-use Rattle.caller_service.proofs.Common.{AreIdle}
+use Rattle.caller_service.proofs.Common.{AreIdle, vec_len}
 use Rattle.caller_service.proofs.allotments.Allotment.free.Given as goal
 
 abbrev pub invariant-loop-handle : goal.invariant-loop-handle

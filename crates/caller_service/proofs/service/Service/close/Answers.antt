@@ -1,5 +1,4 @@
-use Rattle.std.proofs.Common.{ap, arith, get_or, map, reverse, subst, sym, ◌++◌, ◌∙◌}
-use Rattle.caller_service.proofs.Common.{IsClosed, IsRetired, WereRetired, account_of, world_of}
+use Rattle.caller_service.proofs.Common.{IsClosed, IsRetired, WereRetired, account_of, ap, arith, get_or, map, reverse, subst, sym, world_of, ◌++◌, ◌∙◌}
 use Rattle.locked_store.specs.Shared.{lock_of, opened_of, world}
 use Rattle.caller_service.proofs.Ended.{closed_over}
 use Rattle.caller_service.proofs.service.Service.close.Goals as goal

@@ -1,6 +1,5 @@
-use Rattle.std.proofs.Common.{inl}
-use Rattle.key_cells.proofs.CellsRead.{for_told}
-use Rattle.key_cells.proofs.Opened.{calm_none, refused_calm}
+use Rattle.caller_service.proofs.Common.{inl}
+use Rattle.key_cells.proofs.{CellsRead.for_told, Opened.calm_none, Opened.refused_calm}
 use Rattle.caller_service.proofs.service.Service.open.Goals as goal
 
 pub returns-in-Err-clause-refused : goal.returns-in-Err-clause-refused

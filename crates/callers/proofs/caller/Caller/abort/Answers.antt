@@ -1,7 +1,5 @@
-use Rattle.std.proofs.Common.{ap, refl}
-use Rattle.callers.proofs.Common.{done, ends, model_request, world}
-use Rattle.callers.proofs.Handling.{aborted, aborted_answered, goes_back, same_out, spent_back}
-use Rattle.callers.proofs.Journeys.{called}
+use Rattle.callers.proofs.Common.{ap, done, ends, model_request, refl, world}
+use Rattle.callers.proofs.{Handling.aborted, Handling.aborted_answered, Handling.goes_back, Handling.same_out, Handling.spent_back, Journeys.called}
 use Rattle.callers.proofs.caller.Caller.abort.Goals as goal
 
 pub give_back-requires-clause-lent : goal.give_back-requires-clause-lent

@@ -1,7 +1,5 @@
-use Rattle.std.proofs.Common.{ap, arith, length, subst, sym, ◌+◌, ◌-◌, ◌<◌, ◌∙◌}
-use Rattle.callers.proofs.Common.{model_request, option_map, world}
-use Rattle.callers.proofs.Asking.{asked_with, asked_without}
-use Rattle.callers.proofs.HandleLists.{cell_at, named_alike, names_lease}
+use Rattle.callers.proofs.Common.{ap, arith, length, model_request, option_map, subst, sym, world, ◌+◌, ◌-◌, ◌<◌, ◌∙◌}
+use Rattle.callers.proofs.{Asking.asked_with, Asking.asked_without, HandleLists.cell_at, HandleLists.named_alike, HandleLists.names_lease}
 use Rattle.callers.proofs.caller.Caller.ask.Goals as goal
 
 pub step-rank-requires-clause-out : goal.step-rank-requires-clause-out

@@ -1,10 +1,6 @@
-use Rattle.std.proofs.Common.{Err, Ok, ap, refl, ◌∙◌}
-use Rattle.callers.proofs.Common.{DecidesAfter, GetAttributes, HasAttributes, IsRanked, IsRefused, Plain, SameButPass, mark_of, may_change_keys, model_request, there_rows, world}
+use Rattle.callers.proofs.Common.{DecidesAfter, Err, GetAttributes, HasAttributes, IsRanked, IsRefused, Ok, Plain, SameButPass, ap, mark_of, may_change_keys, model_request, refl, there_rows, world, ◌∙◌}
 use Rattle.service_calls.specs.declared.output.Output.TheVariants as output
-use Rattle.callers.proofs.Failing.{refused_tells, there_plainly}
-use Rattle.callers.proofs.KeyReplies.{known_gives, unknown_gives}
-use Rattle.callers.proofs.Storing.{if_err, if_ok, stored}
-use Rattle.callers.proofs.Supposed.{by_after, quiet_leaves}
+use Rattle.callers.proofs.{Failing.refused_tells, Failing.there_plainly, KeyReplies.known_gives, KeyReplies.unknown_gives, Storing.if_err, Storing.if_ok, Storing.stored, Supposed.by_after, Supposed.quiet_leaves}
 use Rattle.callers.proofs.caller.Caller.attributes.Goals as goal
 
 pub returns-in-Ok : goal.returns-in-Ok

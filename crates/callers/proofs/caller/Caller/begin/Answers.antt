@@ -1,5 +1,4 @@
-use Rattle.std.proofs.Common.{Err, Ok, ap, arith, refl, subst, sym, ◌+◌, ◌∙◌, ◌≡◌}
-use Rattle.callers.proofs.Common.{AnswersReply, Done, Inactive, buffer_after, model_request, plain_reply, world}
+use Rattle.callers.proofs.Common.{AnswersReply, Done, Err, Inactive, Ok, ap, arith, buffer_after, model_request, plain_reply, refl, subst, sym, world, ◌+◌, ◌∙◌, ◌≡◌}
 use Rattle.callers.proofs.Beginning.{at_handle, bare_answered, bare_ready}
 use Rattle.callers.proofs.caller.Caller.begin.Goals as goal
 

@@ -1,9 +1,6 @@
-use Rattle.std.proofs.Common.{IfSome, ap, arith, is_some, refl, subst, sym, ◌+◌, ◌∙◌, ◌∷◌, ◌≡◌}
-use Rattle.callers.proofs.Common.{All-pop, DecidesAfter, Inactive, IsClear, IsLent, IsRanked, IsRefused, Plain, false≢true, lease_pair, mark_of, model_request, use_refusal, used_for, world}
-use Rattle.callers.proofs.Beginning.{at_handle, lent_answered, lent_ready, reads_key, refuses, stayed_answered, stayed_ready}
-use Rattle.callers.proofs.Failing.{refused_tells, use_plainly}
-use Rattle.callers.proofs.Looking.{has_room_for_lease, has_spare, popped, put_back}
-use Rattle.callers.proofs.Storing.{if_err, if_ok}
+use Rattle.callers.proofs.Common.{All-pop, DecidesAfter, IfSome, Inactive, IsClear, IsLent, IsRanked, IsRefused, Plain, ap, arith, false≢true, is_some, lease_pair, mark_of, model_request, refl, subst, sym, use_refusal, used_for, world, ◌+◌, ◌∙◌, ◌∷◌, ◌≡◌}
+use Rattle.callers.proofs.{Beginning.at_handle, Beginning.lent_answered, Beginning.lent_ready, Beginning.reads_key, Beginning.refuses, Beginning.stayed_answered, Beginning.stayed_ready, Failing.refused_tells, Failing.use_plainly}
+use Rattle.callers.proofs.{Looking.has_room_for_lease, Looking.has_spare, Looking.popped, Looking.put_back, Storing.if_err, Storing.if_ok}
 use Rattle.callers.proofs.caller.Caller.begin_with.Goals as goal
 
 pub unreachable-requires : goal.unreachable-requires

@@ -1,9 +1,6 @@
-use Rattle.std.proofs.Common.{ap, is_some, length, refl, subst, sym, ◌∙◌}
-use Rattle.callers.proofs.Common.{IsLooked, IsReplied, bytes_of, computed_by, drawn_from, false≢true, may_change_keys, model_request, next_bytes, world}
+use Rattle.callers.proofs.Common.{IsLooked, IsReplied, ap, bytes_of, computed_by, drawn_from, false≢true, is_some, length, may_change_keys, model_request, next_bytes, refl, subst, sym, world, ◌∙◌}
 use Rattle.callers.proofs.Computing.{asked_with, computed_answered, computed_ready, lent_answered, lent_ready, refused_answered, refused_ready}
-use Rattle.callers.proofs.Looking.{has_spare, popped, put_back}
-use Rattle.callers.proofs.Supposed.{decides_as}
-use Rattle.callers.proofs.WithKeys.{quiet_call}
+use Rattle.callers.proofs.{Looking.has_spare, Looking.popped, Looking.put_back, Supposed.decides_as, WithKeys.quiet_call}
 use Rattle.callers.proofs.caller.Caller.compute_or_look.Goals as goal
 
 pub unreachable-requires : goal.unreachable-requires

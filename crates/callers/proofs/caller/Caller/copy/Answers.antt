@@ -1,11 +1,7 @@
-use Rattle.std.proofs.Common.{Err, Ok, ap, refl, sym, ◌∙◌}
-use Rattle.callers.proofs.Common.{bytes_of_key, Copy, created_unless, DecidesBefore, failure_told, filling_pair, IsMade, IsRanked, IsUncopied, mark_uncopied, model_request, OnStore, Plain, recorded_copy, RecordsCopy, SameButPass, without_pair, world}
+use Rattle.callers.proofs.Common.{Copy, DecidesBefore, Err, IsMade, IsRanked, IsUncopied, Ok, OnStore, Plain, RecordsCopy, SameButPass, ap, bytes_of_key, created_unless, failure_told, filling_pair, mark_uncopied, model_request, recorded_copy, refl, sym, without_pair, world, ◌∙◌}
 use Rattle.std.specs.FinMap as map
 use Rattle.service_calls.specs.declared.output.Output.TheVariants as output
-use Rattle.callers.proofs.Failing.{uncopied_tells}
-use Rattle.callers.proofs.Made.{made_gives, undrawn, uncopied_gives}
-use Rattle.callers.proofs.Storing.{created_answered, created_in, created_ready, has_no_filling, if_err, if_ok}
-use Rattle.callers.proofs.Supposed.{by_before}
+use Rattle.callers.proofs.{Failing.uncopied_tells, Made.made_gives, Made.undrawn, Made.uncopied_gives, Storing.created_answered, Storing.created_in, Storing.created_ready, Storing.has_no_filling, Storing.if_err, Storing.if_ok, Supposed.by_before}
 use Rattle.callers.proofs.caller.Caller.copy.Goals as goal
 
 pub reserve-filling-requires-clause-space : goal.reserve-filling-requires-clause-space

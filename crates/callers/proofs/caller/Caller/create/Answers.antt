@@ -1,5 +1,4 @@
-use Rattle.std.proofs.Common.{None, length, refl, ◌∷◌}
-use Rattle.callers.proofs.Common.{DecidesBefore, IsCreated, IsMade, IsRanked, IsUnmade, KeyId, NotMade, Plain, RecordsStated, filling_pair, mark_unmade, model_request, without_pair, world}
+use Rattle.callers.proofs.Common.{DecidesBefore, IsCreated, IsMade, IsRanked, IsUnmade, KeyId, None, NotMade, Plain, RecordsStated, filling_pair, length, mark_unmade, model_request, refl, without_pair, world, ◌∷◌}
 use Rattle.callers.proofs.Storing.{created_in, creates_on, if_err_as, if_ok_as}
 use Rattle.callers.proofs.caller.Caller.create.Goals as goal
 

@@ -1,12 +1,7 @@
-use Rattle.std.proofs.Common.{Err, None, Ok, ap, arith, length, refl, ◌∙◌}
-use Rattle.callers.proofs.Common.{DecidesBefore, Generate, IsCreated, IsMade, IsUnmade, OnStore, Plain, RandomStream, RecordsStated, draws_none, drawn_for, failure_told, mark_unmade, model_request, replay, world}
+use Rattle.callers.proofs.Common.{DecidesBefore, Err, Generate, IsCreated, IsMade, IsUnmade, None, Ok, OnStore, Plain, RandomStream, RecordsStated, ap, arith, drawn_for, draws_none, failure_told, length, mark_unmade, model_request, refl, replay, world, ◌∙◌}
 use Rattle.service_calls.specs.declared.output.Output.TheVariants as output
-use Rattle.callers.proofs.Generating.{few_for, generates, generation_replies, made_own, unmade_own}
-use Rattle.callers.proofs.Failing.{stated_plainly, unmade_tells}
-use Rattle.callers.proofs.Made.{made_gives, unmade_gives}
-use Rattle.callers.proofs.Supposed.{by_before}
-use Rattle.callers.proofs.Readying.{known}
-use Rattle.callers.proofs.Storing.{created_answered, decided_known, drew_ready, has_no_filling, if_err, if_ok}
+use Rattle.callers.proofs.{Generating.few_for, Generating.generates, Generating.generation_replies, Generating.made_own, Generating.unmade_own, Failing.stated_plainly, Failing.unmade_tells, Made.made_gives, Made.unmade_gives, Supposed.by_before}
+use Rattle.callers.proofs.{Readying.known, Storing.created_answered, Storing.decided_known, Storing.drew_ready, Storing.has_no_filling, Storing.if_err, Storing.if_ok}
 use Rattle.callers.proofs.caller.Caller.create_random.Goals as goal
 
 pub create-rank-requires-clause-space : goal.create-rank-requires-clause-space

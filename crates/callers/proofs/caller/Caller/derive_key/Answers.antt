@@ -1,7 +1,5 @@
-use Rattle.std.proofs.Common.{ap, length, refl, take, ◌∷◌}
-use Rattle.callers.proofs.Common.{DecidesBefore, fails, filling_pair, IsMade, IsRanked, IsUnmade, mark_unmade, model_request, option_map, Plain, RecordsStated, status_unmade, without_pair, world}
-use Rattle.callers.proofs.Handling.{goes_back, spent_back}
-use Rattle.callers.proofs.Failing.{stated_plainly, unmade_tells}
+use Rattle.callers.proofs.Common.{DecidesBefore, IsMade, IsRanked, IsUnmade, Plain, RecordsStated, ap, fails, filling_pair, length, mark_unmade, model_request, option_map, refl, status_unmade, take, without_pair, world, ◌∷◌}
+use Rattle.callers.proofs.{Handling.goes_back, Handling.spent_back, Failing.stated_plainly, Failing.unmade_tells}
 use Rattle.callers.proofs.Outputting.{derived_creates, failed, output_answered, output_ready, taken, taken_is_out, unmade_answered, unmade_ready}
 use Rattle.callers.proofs.Storing.{created_in, creates_on, has_no_filling, if_err, if_ok}
 use Rattle.callers.proofs.caller.Caller.derive_key.Goals as goal

@@ -1,9 +1,5 @@
-use Rattle.std.proofs.Common.{Err, Ok, ap, refl, ◌∙◌}
-use Rattle.callers.proofs.Common.{DecidesBefore, Destroy, Done, IsRanked, IsUndestroyed, SameButPass, failure_told, mark_undestroyed, model_request, world}
-use Rattle.callers.proofs.Failing.{undestroyed_tells}
-use Rattle.callers.proofs.KeyReplies.{destroyed_gives, destroy_draws, undestroyed_gives}
-use Rattle.callers.proofs.Storing.{if_err, on_ok, stored}
-use Rattle.callers.proofs.Supposed.{by_before}
+use Rattle.callers.proofs.Common.{DecidesBefore, Destroy, Done, Err, IsRanked, IsUndestroyed, Ok, SameButPass, ap, failure_told, mark_undestroyed, model_request, refl, world, ◌∙◌}
+use Rattle.callers.proofs.{Failing.undestroyed_tells, KeyReplies.destroyed_gives, KeyReplies.destroy_draws, KeyReplies.undestroyed_gives, Storing.if_err, Storing.on_ok, Storing.stored, Supposed.by_before}
 use Rattle.callers.proofs.caller.Caller.destroy.Goals as goal
 
 pub returns-in-Ok : goal.returns-in-Ok

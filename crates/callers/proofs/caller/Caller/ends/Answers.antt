@@ -1,7 +1,5 @@
-use Rattle.std.proofs.Common.{ap, false, rules, sym, true, ◌∙◌, ◌≡◌}
-use Rattle.callers.proofs.Common.{is_inactive}
-use Rattle.service_calls.specs.declared.call.Call.TheVariants.{OnHandle}
-use Rattle.service_calls.specs.declared.handle_calls.HandleCall.TheVariants.{Abort}
+use Rattle.callers.proofs.Common.{ap, false, is_inactive, rules, sym, true, ◌∙◌, ◌≡◌}
+use Rattle.service_calls.specs.{declared.call.Call.TheVariants.OnHandle, declared.handle_calls.HandleCall.TheVariants.Abort}
 use Rattle.callers.specs.Budget.{is_counted}
 use Rattle.callers.proofs.Beginning.{at_handle}
 use Rattle.callers.proofs.caller.Caller.ends.Goals as goal

@@ -1,7 +1,5 @@
-use Rattle.std.proofs.Common.{Err, None, Some, ap, refl, sym, ◌∙◌, ◌≡◌}
-use Rattle.callers.proofs.Common.{Generate, InvalidArgument, Status, model_request, world}
-use Rattle.callers.proofs.Generating.{no_bytes_drawn, no_bytes_give}
-use Rattle.callers.proofs.Storing.{stored_answered, stored_ready, undecided}
+use Rattle.callers.proofs.Common.{Err, Generate, InvalidArgument, None, Some, Status, ap, model_request, refl, sym, world, ◌∙◌, ◌≡◌}
+use Rattle.callers.proofs.{Generating.no_bytes_drawn, Generating.no_bytes_give, Storing.stored_answered, Storing.stored_ready, Storing.undecided}
 use Rattle.callers.proofs.caller.Caller.generate.Goals as goal
 
 clash : {s : Status} → Some s ≡ None → ⊥

@@ -1,7 +1,5 @@
-use Rattle.std.proofs.Common.{ap, length, refl, subst, sym, ◌∙◌}
-use Rattle.callers.proofs.Common.{AnswersReply, OnStore, Outcome, SameButPass, Service, answers_plainly, buffer_after, hashes, model_hash_call, model_request, next_random, plain_step, world}
-use Rattle.callers.proofs.Failing.{answers_plain}
-use Rattle.callers.proofs.Storing.{stored_answered, stored_ready, undecided}
+use Rattle.callers.proofs.Common.{AnswersReply, OnStore, Outcome, SameButPass, Service, answers_plainly, ap, buffer_after, hashes, length, model_hash_call, model_request, next_random, plain_step, refl, subst, sym, world, ◌∙◌}
+use Rattle.callers.proofs.{Failing.answers_plain, Storing.stored_answered, Storing.stored_ready, Storing.undecided}
 use Rattle.callers.proofs.caller.Caller.hash.Goals as goal
 
 pub returns : goal.returns

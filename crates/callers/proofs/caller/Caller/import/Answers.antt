@@ -1,10 +1,6 @@
-use Rattle.std.proofs.Common.{Err, None, Ok, ap, length, refl, sym, ◌∙◌}
-use Rattle.callers.proofs.Common.{DecidesBefore, Import, IsCreated, IsMade, IsUnmade, OnStore, Plain, RecordsStated, created_unless, failure_told, mark_unmade, model_request, recorded_of, world}
+use Rattle.callers.proofs.Common.{DecidesBefore, Err, Import, IsCreated, IsMade, IsUnmade, None, Ok, OnStore, Plain, RecordsStated, ap, created_unless, failure_told, length, mark_unmade, model_request, recorded_of, refl, sym, world, ◌∙◌}
 use Rattle.service_calls.specs.declared.output.Output.TheVariants as output
-use Rattle.callers.proofs.Failing.{stated_plainly, unmade_tells}
-use Rattle.callers.proofs.Made.{made_gives, undrawn, unmade_gives}
-use Rattle.callers.proofs.Storing.{created_answered, created_ready, has_no_filling, if_err, if_ok}
-use Rattle.callers.proofs.Supposed.{by_before}
+use Rattle.callers.proofs.{Failing.stated_plainly, Failing.unmade_tells, Made.made_gives, Made.undrawn, Made.unmade_gives, Storing.created_answered, Storing.created_ready, Storing.has_no_filling, Storing.if_err, Storing.if_ok, Supposed.by_before}
 use Rattle.callers.proofs.caller.Caller.import.Goals as goal
 
 pub create-rank-requires-clause-space : goal.create-rank-requires-clause-space

@@ -1,5 +1,4 @@
-use Rattle.std.proofs.Common.{ap, refl, ◌≡◌}
-use Rattle.callers.proofs.Common.{SameButPass, joined, world}
+use Rattle.callers.proofs.Common.{SameButPass, ap, joined, refl, world, ◌≡◌}
 use Rattle.callers.proofs.Learning.{learned, other_seen, own_seen}
 use Rattle.callers.proofs.caller.Caller.learn.Goals as goal
 

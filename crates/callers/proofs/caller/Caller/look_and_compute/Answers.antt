@@ -1,10 +1,6 @@
-use Rattle.std.proofs.Common.{ap, is_some, length, refl, sym, ◌∙◌, ◌∷◌}
-use Rattle.callers.proofs.Common.{DecidesAfter, IsClear, IsLent, IsRanked, IsRefused, Plain, false≢true, lease_pair, mark_of, may_change_keys, model_request, use_refusal, world}
-use Rattle.callers.proofs.Computing.{asked_with, lent_answered, lent_ready, refused_answered, refused_ready}
-use Rattle.callers.proofs.Looking.{has_spare, popped, put_back}
-use Rattle.callers.proofs.Storing.{if_err, if_ok}
-use Rattle.callers.proofs.Supposed.{decides_as}
-use Rattle.callers.proofs.WithKeys.{quiet_call}
+use Rattle.callers.proofs.Common.{DecidesAfter, IsClear, IsLent, IsRanked, IsRefused, Plain, ap, false≢true, is_some, lease_pair, length, mark_of, may_change_keys, model_request, refl, sym, use_refusal, world, ◌∙◌, ◌∷◌}
+use Rattle.callers.proofs.{Computing.asked_with, Computing.lent_answered, Computing.lent_ready, Computing.refused_answered, Computing.refused_ready, Looking.has_spare, Looking.popped, Looking.put_back, Storing.if_err, Storing.if_ok}
+use Rattle.callers.proofs.{Supposed.decides_as, WithKeys.quiet_call}
 use Rattle.callers.proofs.caller.Caller.look_and_compute.Goals as goal
 
 pub unreachable-requires : goal.unreachable-requires

@@ -1,5 +1,4 @@
-use Rattle.std.proofs.Common.{List, ap, arith, refl, ℕ, ◌∙◌}
-use Rattle.callers.proofs.Common.{RandomStream, world}
+use Rattle.callers.proofs.Common.{List, RandomStream, ap, arith, refl, world, ℕ, ◌∙◌}
 use Rattle.callers.proofs.Starting.{starts_ready}
 use Rattle.callers.proofs.caller.Caller.new.Goals as goal
 

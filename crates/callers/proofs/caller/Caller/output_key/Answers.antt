@@ -1,5 +1,4 @@
-use Rattle.std.proofs.Common.{None, Some, sym, ◌∙◌, ◌≡◌}
-use Rattle.callers.proofs.Common.{Status}
+use Rattle.callers.proofs.Common.{None, Some, Status, sym, ◌∙◌, ◌≡◌}
 use Rattle.callers.proofs.caller.Caller.output_key.Goals as goal
 
 clash : {s : Status} → Some s ≡ None → ⊥

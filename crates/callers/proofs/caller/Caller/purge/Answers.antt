@@ -1,9 +1,6 @@
-use Rattle.std.proofs.Common.{Err, None, Ok, Some, ap, refl, ◌∙◌, ◌≡◌}
-use Rattle.callers.proofs.Common.{DecidesAfter, Done, InvalidHandle, IsRanked, Plain, Purge, SameButPass, failure_told, may_change_keys, model_request, there_rows, world}
+use Rattle.callers.proofs.Common.{DecidesAfter, Done, Err, InvalidHandle, IsRanked, None, Ok, Plain, Purge, SameButPass, Some, ap, failure_told, may_change_keys, model_request, refl, there_rows, world, ◌∙◌, ◌≡◌}
 use Rattle.std.specs.FinMap as map
-use Rattle.callers.proofs.KeyReplies.{purged_gives, unpurged_gives}
-use Rattle.callers.proofs.Storing.{if_err, on_ok, stored}
-use Rattle.callers.proofs.Supposed.{by_after, quiet_leaves}
+use Rattle.callers.proofs.{KeyReplies.purged_gives, KeyReplies.unpurged_gives, Storing.if_err, Storing.on_ok, Storing.stored, Supposed.by_after, Supposed.quiet_leaves}
 use Rattle.callers.proofs.caller.Caller.purge.Goals as goal
 
 pub returns-in-Ok : goal.returns-in-Ok

@@ -1,8 +1,5 @@
-use Rattle.std.proofs.Common.{Err, Ok, ap, arith, get_or, refl, subst, sym, ◌-◌, ◌∙◌}
-use Rattle.callers.proofs.Common.{AnswersReply, Done, NoFault, RefusesKeyAt, Reply, buffer_after, drawn_from, draws_none, key_refused, model_request, operation_at, plain_reply, world}
-use Rattle.callers.proofs.Beginning.{at_handle}
-use Rattle.callers.proofs.Failing.{key_refused_plainly, told_plainly}
-use Rattle.callers.proofs.Handling.{asked_answered, asked_back, asked_ready, spent_back, still_stand}
+use Rattle.callers.proofs.Common.{AnswersReply, Done, Err, NoFault, Ok, RefusesKeyAt, Reply, ap, arith, buffer_after, drawn_from, draws_none, get_or, key_refused, model_request, operation_at, plain_reply, refl, subst, sym, world, ◌-◌, ◌∙◌}
+use Rattle.callers.proofs.{Beginning.at_handle, Failing.key_refused_plainly, Failing.told_plainly, Handling.asked_answered, Handling.asked_back, Handling.asked_ready, Handling.spent_back, Handling.still_stand}
 use Rattle.callers.proofs.Inputting.{refusal_draws_none, untimely, untimely_alike}
 use Rattle.callers.proofs.caller.Caller.refuse_key.Goals as goal
 

@@ -1,8 +1,5 @@
-use Rattle.std.proofs.Common.{Err, None, ap, arith, get_or, refl, subst, sym, ◌-◌, ◌∙◌, ◌≡◌}
-use Rattle.callers.proofs.Common.{AnswersReply, NoFault, Reply, buffer_after, derivation_part, derived_key_refused, drawn_from, draws_none, model_request, operation_at, output_key_refusal, part_of, world}
-use Rattle.callers.proofs.Beginning.{at_handle}
-use Rattle.callers.proofs.Failing.{derived_plainly, told_plainly}
-use Rattle.callers.proofs.Handling.{asked_answered, asked_back, asked_ready, spent_back, still_stand}
+use Rattle.callers.proofs.Common.{AnswersReply, Err, NoFault, None, Reply, ap, arith, buffer_after, derivation_part, derived_key_refused, drawn_from, draws_none, get_or, model_request, operation_at, output_key_refusal, part_of, refl, subst, sym, world, ◌-◌, ◌∙◌, ◌≡◌}
+use Rattle.callers.proofs.{Beginning.at_handle, Failing.derived_plainly, Failing.told_plainly, Handling.asked_answered, Handling.asked_back, Handling.asked_ready, Handling.spent_back, Handling.still_stand}
 use Rattle.callers.proofs.Outputting.{output_draws_none, undue, undue_alike, undue_leaves}
 use Rattle.callers.proofs.caller.Caller.refuse_output_key.Goals as goal
 

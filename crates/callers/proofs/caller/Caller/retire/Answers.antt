@@ -1,5 +1,4 @@
-use Rattle.std.proofs.Common.{arith, subst, ◌≡◌}
-use Rattle.callers.proofs.Common.{IsRetiring, world}
+use Rattle.callers.proofs.Common.{IsRetiring, arith, subst, world, ◌≡◌}
 use Rattle.callers.proofs.Retiring.{ends}
 use Rattle.callers.proofs.caller.Caller.retire.Goals as goal
 

@@ -1,5 +1,4 @@
-use Rattle.std.proofs.Common.{◌≡◌}
-use Rattle.callers.proofs.Common.{IsRetiring, MakesNoCall, world}
+use Rattle.callers.proofs.Common.{IsRetiring, MakesNoCall, world, ◌≡◌}
 use Rattle.callers.proofs.caller.Caller.retire.Given as goal
 
 abbrev pub invariant-loop-place : goal.invariant-loop-place

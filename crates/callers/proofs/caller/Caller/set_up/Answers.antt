@@ -1,9 +1,6 @@
-use Rattle.std.proofs.Common.{ap, arith, refl, sym, ◌∙◌, ◌≡◌}
-use Rattle.callers.proofs.Common.{is_inactive, model_request, operation_at, world}
+use Rattle.callers.proofs.Common.{ap, arith, is_inactive, model_request, operation_at, refl, sym, world, ◌∙◌, ◌≡◌}
 use Rattle.psa_status.specs.declared.Status.TheVariants as status
-use Rattle.callers.proofs.Beginning.{at_handle, stayed_answered, stayed_ready, twice}
-use Rattle.callers.proofs.Looking.{same_spares}
-use Rattle.callers.proofs.SettingUp.{is_free}
+use Rattle.callers.proofs.{Beginning.at_handle, Beginning.stayed_answered, Beginning.stayed_ready, Beginning.twice, Looking.same_spares, SettingUp.is_free}
 use Rattle.callers.proofs.caller.Caller.set_up.Goals as goal
 
 pub returns-then-not-is_inactive : goal.returns-then-not-is_inactive

@@ -1,8 +1,5 @@
-use Rattle.std.proofs.Common.{ap, arith, length, refl, ◌∙◌}
-use Rattle.callers.proofs.Common.{drawn_from, model_request, model_step, next_bytes, operation_at, stepped_by, world}
-use Rattle.callers.proofs.Failing.{answers_plain, stepped_plainly}
-use Rattle.callers.proofs.Handling.{asked_answered, asked_back, asked_ready, spent_back, steps, still_stand}
-use Rattle.callers.proofs.Rekeying.{rekeyed_steps}
+use Rattle.callers.proofs.Common.{ap, arith, drawn_from, length, model_request, model_step, next_bytes, operation_at, refl, stepped_by, world, ◌∙◌}
+use Rattle.callers.proofs.{Failing.answers_plain, Failing.stepped_plainly, Handling.asked_answered, Handling.asked_back, Handling.asked_ready, Handling.spent_back, Handling.steps, Handling.still_stand, Rekeying.rekeyed_steps}
 use Rattle.callers.proofs.caller.Caller.step.Goals as goal
 
 pub give_back-requires-clause-lent : goal.give_back-requires-clause-lent

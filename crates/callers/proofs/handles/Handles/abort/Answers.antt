@@ -1,5 +1,4 @@
-use Rattle.std.proofs.Common.{ap, arith, get_or, set, subst, sym, ◌-◌, ◌<◌, ◌∙◌}
-use Rattle.callers.proofs.Common.{Inactive, IsChanged}
+use Rattle.callers.proofs.Common.{Inactive, IsChanged, ap, arith, get_or, set, subst, sym, ◌-◌, ◌<◌, ◌∙◌}
 use Rattle.callers.proofs.Changing.{wiped}
 use Rattle.callers.proofs.handles.Handles.abort.Goals as goal
 

@@ -1,5 +1,4 @@
-use Rattle.std.proofs.Common.{None, ap, arith, get_or, refl, set, subst, sym, ◌-◌, ◌<◌, ◌∙◌}
-use Rattle.callers.proofs.Common.{IsChanged, operation_at, set_up_without_key}
+use Rattle.callers.proofs.Common.{IsChanged, None, ap, arith, get_or, operation_at, refl, set, set_up_without_key, subst, sym, ◌-◌, ◌<◌, ◌∙◌}
 use Rattle.callers.proofs.Changing.{same_lease}
 use Rattle.callers.proofs.handles.Handles.begin.Goals as goal
 

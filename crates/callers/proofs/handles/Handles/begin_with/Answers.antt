@@ -1,5 +1,4 @@
-use Rattle.std.proofs.Common.{ap, arith, get_or, refl, set, subst, sym, ◌-◌, ◌<◌, ◌∙◌}
-use Rattle.callers.proofs.Common.{HoldsLease, begun_with, bytes_of, operation_at}
+use Rattle.callers.proofs.Common.{HoldsLease, ap, arith, begun_with, bytes_of, get_or, operation_at, refl, set, subst, sym, ◌-◌, ◌<◌, ◌∙◌}
 use Rattle.callers.proofs.Changing.{kept}
 use Rattle.callers.proofs.handles.Handles.begin_with.Goals as goal
 

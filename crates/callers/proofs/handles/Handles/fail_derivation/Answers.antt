@@ -1,5 +1,4 @@
-use Rattle.std.proofs.Common.{None, ap, arith, get_or, refl, set, subst, sym, ◌-◌, ◌<◌, ◌∙◌}
-use Rattle.callers.proofs.Common.{InError, IsChanged, operation_at}
+use Rattle.callers.proofs.Common.{InError, IsChanged, None, ap, arith, get_or, operation_at, refl, set, subst, sym, ◌-◌, ◌<◌, ◌∙◌}
 use Rattle.callers.proofs.Changing.{same_lease}
 use Rattle.callers.proofs.handles.Handles.fail_derivation.Goals as goal
 

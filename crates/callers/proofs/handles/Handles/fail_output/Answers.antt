@@ -1,5 +1,4 @@
-use Rattle.std.proofs.Common.{ap, arith, get_or, set, subst, sym, ◌-◌, ◌<◌, ◌∙◌}
-use Rattle.callers.proofs.Common.{InError, IsChanged, operation_at}
+use Rattle.callers.proofs.Common.{InError, IsChanged, ap, arith, get_or, operation_at, set, subst, sym, ◌-◌, ◌<◌, ◌∙◌}
 use Rattle.callers.proofs.Changing.{stepped}
 use Rattle.callers.proofs.handles.Handles.fail_output.Goals as goal
 

@@ -1,6 +1,4 @@
-use Rattle.std.proofs.Common.{None, subst, ◌≡◌}
-use Rattle.callers.proofs.Common.{All-pop, OperationHandle}
-use Rattle.std.specs.Option.{IfSome}
+use Rattle.callers.proofs.Common.{All-pop, IfSome, None, OperationHandle, subst, ◌≡◌}
 use Rattle.callers.proofs.handles.Handles.free.Goals as goal
 
 pub into_states-states-requires : goal.into_states-states-requires

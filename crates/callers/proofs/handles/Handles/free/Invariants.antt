@@ -1,5 +1,4 @@
-use Rattle.std.proofs.Common.{All, None, vec_len, ◌≡◌}
-use Rattle.callers.proofs.Common.{OperationHandle}
+use Rattle.callers.proofs.Common.{All, None, OperationHandle, vec_len, ◌≡◌}
 use Rattle.callers.proofs.handles.Handles.free.Given as goal
 
 abbrev pub invariant-loop-cell : goal.invariant-loop-cell

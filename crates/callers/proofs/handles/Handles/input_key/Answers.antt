@@ -1,5 +1,4 @@
-use Rattle.std.proofs.Common.{ap, arith, get_or, refl, set, subst, sym, ◌-◌, ◌<◌, ◌∙◌}
-use Rattle.callers.proofs.Common.{HoldsLease, operation_at, with_secret}
+use Rattle.callers.proofs.Common.{HoldsLease, ap, arith, get_or, operation_at, refl, set, subst, sym, with_secret, ◌-◌, ◌<◌, ◌∙◌}
 use Rattle.callers.proofs.Changing.{kept}
 use Rattle.callers.proofs.handles.Handles.input_key.Goals as goal
 

@@ -1,5 +1,4 @@
-use Rattle.std.proofs.Common.{None, ap, arith, false, get_or, refl, set, subst, sym, true, ◌-◌, ◌<◌, ◌∙◌, ◌≡◌}
-use Rattle.callers.proofs.Common.{IsChanged, operation_at, stated_bytes, without_bytes}
+use Rattle.callers.proofs.Common.{IsChanged, None, ap, arith, false, get_or, operation_at, refl, set, stated_bytes, subst, sym, true, without_bytes, ◌-◌, ◌<◌, ◌∙◌, ◌≡◌}
 use Rattle.callers.proofs.Changing.{same_lease}
 use Rattle.callers.proofs.handles.Handles.output_key.Goals as goal
 

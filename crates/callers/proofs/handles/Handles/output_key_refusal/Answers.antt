@@ -1,5 +1,4 @@
-use Rattle.std.proofs.Common.{rules, subst, ◌≡◌}
-use Rattle.callers.proofs.Common.{IsOperation, get_or_read_under}
+use Rattle.callers.proofs.Common.{IsOperation, get_or_read_under, rules, subst, ◌≡◌}
 use Rattle.callers.proofs.handles.Handles.output_key_refusal.Goals as goal
 
 pub returns-clause-refusal : goal.returns-clause-refusal

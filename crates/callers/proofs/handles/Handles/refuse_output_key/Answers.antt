@@ -1,5 +1,4 @@
-use Rattle.std.proofs.Common.{ap, arith, get_or, set, subst, sym, ◌-◌, ◌<◌, ◌∙◌}
-use Rattle.callers.proofs.Common.{IsChanged, derived_key_refused, operation_at}
+use Rattle.callers.proofs.Common.{IsChanged, ap, arith, derived_key_refused, get_or, operation_at, set, subst, sym, ◌-◌, ◌<◌, ◌∙◌}
 use Rattle.callers.proofs.Changing.{stepped}
 use Rattle.callers.proofs.handles.Handles.refuse_output_key.Goals as goal
 

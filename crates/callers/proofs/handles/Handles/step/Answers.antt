@@ -1,5 +1,4 @@
-use Rattle.std.proofs.Common.{ap, arith, get_or, length, set, subst, sym, ◌-◌, ◌<◌, ◌∙◌}
-use Rattle.callers.proofs.Common.{IsChanged, model_step, next_bytes, operation_at, stepped_by}
+use Rattle.callers.proofs.Common.{IsChanged, ap, arith, get_or, length, model_step, next_bytes, operation_at, set, stepped_by, subst, sym, ◌-◌, ◌<◌, ◌∙◌}
 use Rattle.callers.proofs.Changing.{stepped}
 use Rattle.callers.proofs.handles.Handles.step.Goals as goal
 

@@ -1,5 +1,4 @@
-use Rattle.std.proofs.Common.{IfNone, IfSome, None, Option, Some, rules, subst, sym, ◌≡◌}
-use Rattle.callers.proofs.Common.{HandleOperation, IsOperation, KeyUse, RefusesKeyAt, TakesKeyAt, get_or_read_under}
+use Rattle.callers.proofs.Common.{HandleOperation, IfNone, IfSome, IsOperation, KeyUse, None, Option, RefusesKeyAt, Some, TakesKeyAt, get_or_read_under, rules, subst, sym, ◌≡◌}
 use Rattle.callers.proofs.handles.Handles.wanted_at.Goals as goal
 
 some_as : (P Q : KeyUse → Type 0) (found : Option KeyUse) → IfSome found P → ((x : KeyUse) → P x → Q x) → IfSome found Q

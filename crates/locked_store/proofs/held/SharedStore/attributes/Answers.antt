@@ -1,5 +1,4 @@
-use Rattle.std.proofs.Common.{ap, is_some}
-use Rattle.locked_store.proofs.Common.{DecidesAfter, HasAttributes, IfErr-weaker, IfOk-weaker, IsRefused, mark_of, model_request, Plain, there_rows, world}
+use Rattle.locked_store.proofs.Common.{DecidesAfter, HasAttributes, IfErr-weaker, IfOk-weaker, IsRefused, Plain, ap, is_some, mark_of, model_request, there_rows, world}
 use Rattle.locked_store.proofs.Turns.{AreTurned, IsSteady, few, in_turn, ranks_err, ranks_ok, reads, stands_some, turned_after, turned_stands}
 use Rattle.locked_store.proofs.held.SharedStore.attributes.Goals as goal
 use Rattle.locked_store.proofs.held.SharedStore.attributes.Goals.{After-of}

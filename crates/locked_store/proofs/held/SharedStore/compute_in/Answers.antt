@@ -1,7 +1,6 @@
-use Rattle.std.proofs.Common.{ap, is_some, length, subst, sym, ◌∙◌}
+use Rattle.locked_store.proofs.Common.{DecidesAfter, HasOpaque, IsClear, IsElementAnswered, ap, is_some, length, mark_computed, model_request, subst, sym, world, ◌∙◌}
 use Rattle.secure_element_calls.specs.Calls.{model_call}
 use Rattle.locked_store.proofs.Computing.{as_known}
-use Rattle.locked_store.proofs.Common.{DecidesAfter, HasOpaque, IsClear, IsElementAnswered, mark_computed, model_request, world}
 use Rattle.locked_store.proofs.Turns.{IsSteady, IsTurned, entered_after, few, in_turn, led_weaker, makes, stands_some, turned_after}
 use Rattle.locked_store.proofs.held.SharedStore.compute_in.Goals as goal
 use Rattle.locked_store.proofs.held.SharedStore.compute_in.Goals.{After-of}

@@ -1,5 +1,4 @@
-use Rattle.std.proofs.Common.{ap}
-use Rattle.locked_store.proofs.Common.{DecidesBefore, filling_pair, IfErr-weaker, IfOk-weaker, IsMade, IsUncopied, mark_uncopied, model_request, Plain, RecordsCopy, without_pair, world}
+use Rattle.locked_store.proofs.Common.{DecidesBefore, IfErr-weaker, IfOk-weaker, IsMade, IsUncopied, Plain, RecordsCopy, ap, filling_pair, mark_uncopied, model_request, without_pair, world}
 use Rattle.locked_store.proofs.Turns.{AreTurned, IsSteady, copies, few, in_turn, is_last, out, ranks_err, ranks_ok, turned_before, turned_stands}
 use Rattle.locked_store.proofs.held.SharedStore.copy.Goals as goal
 use Rattle.locked_store.proofs.held.SharedStore.copy.Goals.{After-of-2}

@@ -1,5 +1,4 @@
-use Rattle.std.proofs.Common.{ap}
-use Rattle.locked_store.proofs.Common.{Plain, model_request}
+use Rattle.locked_store.proofs.Common.{Plain, ap, model_request}
 use Rattle.locked_store.proofs.Turns.{counts, few, in_turn, steady, turned_after}
 use Rattle.locked_store.proofs.held.SharedStore.count.Goals as goal
 

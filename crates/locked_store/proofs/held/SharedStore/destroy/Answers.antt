@@ -1,5 +1,4 @@
-use Rattle.std.proofs.Common.{ap, subst, sym}
-use Rattle.locked_store.proofs.Common.{DecidesBefore, IfErr-weaker, IfOk-weaker, IsClear, IsUndestroyed, mark_undestroyed, MayDestroy, model_request, Plain, world}
+use Rattle.locked_store.proofs.Common.{DecidesBefore, IfErr-weaker, IfOk-weaker, IsClear, IsUndestroyed, MayDestroy, Plain, ap, mark_undestroyed, model_request, subst, sym, world}
 use Rattle.locked_store.proofs.Turns.{AreTurned, IsSteady, destroys, few, in_turn, ranks_err, ranks_ok, stands_some, turned_before, turned_stands}
 use Rattle.locked_store.proofs.held.SharedStore.destroy.Goals as goal
 use Rattle.locked_store.proofs.held.SharedStore.destroy.Goals.{After-of}

@@ -1,6 +1,4 @@
-use Rattle.std.proofs.Common.{ap, length}
-use Rattle.std.specs.Option.{option_map}
-use Rattle.locked_store.proofs.Common.{DecidesBefore, filling_pair, IfErr-weaker, IfOk-weaker, IsMade, IsUnmade, mark_unmade, model_request, Plain, RecordsStated, without_pair, world}
+use Rattle.locked_store.proofs.Common.{DecidesBefore, IfErr-weaker, IfOk-weaker, IsMade, IsUnmade, Plain, RecordsStated, ap, filling_pair, length, mark_unmade, model_request, option_map, without_pair, world}
 use Rattle.locked_store.proofs.Turns.{AreTurned, IsSteady, creates, few, in_turn, is_last, out_beside, ranks_err, ranks_ok, turned_before, turned_stands}
 use Rattle.locked_store.proofs.held.SharedStore.finish.Goals as goal
 use Rattle.locked_store.proofs.held.SharedStore.finish.Goals.{After-of-2}

@@ -1,5 +1,4 @@
-use Rattle.std.proofs.Common.{ap}
-use Rattle.locked_store.proofs.Common.{lease_pair}
+use Rattle.locked_store.proofs.Common.{ap, lease_pair}
 use Rattle.locked_store.proofs.Turns.{after_taking, in_turn, out, steady}
 use Rattle.locked_store.proofs.held.SharedStore.give_back.Goals as goal
 

@@ -1,5 +1,4 @@
-use Rattle.std.proofs.Common.{ap}
-use Rattle.locked_store.proofs.Common.{filling_pair}
+use Rattle.locked_store.proofs.Common.{ap, filling_pair}
 use Rattle.locked_store.proofs.Turns.{after_taking, in_turn, out, steady}
 use Rattle.locked_store.proofs.held.SharedStore.give_up.Goals as goal
 

@@ -1,5 +1,4 @@
-use Rattle.std.proofs.Common.{None}
-use Rattle.locked_store.proofs.Common.{after_change}
+use Rattle.locked_store.proofs.Common.{None, after_change}
 use Rattle.locked_store.proofs.held.SharedStore.give_up.Given as goal
 
 -- a turn without entry

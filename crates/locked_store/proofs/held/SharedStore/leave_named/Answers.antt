@@ -1,5 +1,4 @@
-use Rattle.std.proofs.Common.{Some, length, refl, sym, ◌∙◌}
-use Rattle.locked_store.proofs.Common.{after_change, entries_of, lock_of, mark_met, model_request, opened_of, turn_entry, world}
+use Rattle.locked_store.proofs.Common.{Some, after_change, entries_of, length, lock_of, mark_met, model_request, opened_of, refl, sym, turn_entry, world, ◌∙◌}
 use Rattle.turn_history.proofs.Keeping.{some_same}
 use Rattle.locked_store.proofs.Renewing.{at_after, entered_after_turn, legal_after}
 use Rattle.locked_store.proofs.held.SharedStore.leave_named.Goals as goal

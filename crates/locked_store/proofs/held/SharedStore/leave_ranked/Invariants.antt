@@ -1,5 +1,4 @@
-use Rattle.std.proofs.Common.{Some}
-use Rattle.locked_store.proofs.Common.{after_change, mark_met, model_request, turn_entry}
+use Rattle.locked_store.proofs.Common.{Some, after_change, mark_met, model_request, turn_entry}
 use Rattle.locked_store.proofs.held.SharedStore.leave_ranked.Given as goal
 
 -- the call is the entry of its turn

@@ -1,5 +1,4 @@
-use Rattle.std.proofs.Common.{None}
-use Rattle.locked_store.proofs.Common.{after_change, entries_of, lock_of, opened_of, with_held_by, world}
+use Rattle.locked_store.proofs.Common.{None, after_change, entries_of, lock_of, opened_of, with_held_by, world}
 use Rattle.locked_store.proofs.Renewing.{at_after, later_after_turn, legal_after, with_nothing}
 use Rattle.locked_store.proofs.held.SharedStore.leave_unranked.Goals as goal
 

@@ -1,5 +1,4 @@
-use Rattle.std.proofs.Common.{subst}
-use Rattle.locked_store.proofs.Common.{entries_of, IfErr-weaker, IsEntered, mark_of, model_request}
+use Rattle.locked_store.proofs.Common.{IfErr-weaker, IsEntered, entries_of, mark_of, model_request, subst}
 use Rattle.locked_store.proofs.Renewing.{model_as}
 use Rattle.locked_store.proofs.Turns.{ranked}
 use Rattle.locked_store.proofs.held.SharedStore.look.Goals as goal

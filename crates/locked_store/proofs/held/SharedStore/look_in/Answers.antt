@@ -1,8 +1,7 @@
-use Rattle.std.proofs.Common.{ap, is_some, subst, sym, true, ◌∷◌, ◌≡◌}
+use Rattle.locked_store.proofs.Common.{DecidesAfter, HasOpaque, IsHolding, IsLent, IsRefused, Plain, ap, is_opaque_key, is_some, lease_pair, mark_of, model_request, subst, sym, true, use_refusal, world, ◌∷◌, ◌≡◌}
 use Rattle.std.specs.FinMap as map
 use Rattle.store_model.specs.Store as model
 use Rattle.locked_store.proofs.Owning.{one_lease_more}
-use Rattle.locked_store.proofs.Common.{DecidesAfter, HasOpaque, is_opaque_key, IsHolding, IsLent, IsRefused, lease_pair, mark_of, model_request, Plain, use_refusal, world}
 use Rattle.locked_store.proofs.Renewing.{model_as}
 use Rattle.locked_store.proofs.Turns.{IsSteady, IsTurned, entered_after, few, in_turn, reads, reads_and_gives, stands_some, turned_after}
 use Rattle.locked_store.proofs.held.SharedStore.look_in.Goals as goal

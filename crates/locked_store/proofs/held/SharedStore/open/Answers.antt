@@ -1,5 +1,4 @@
-use Rattle.std.proofs.Common.{IfSome, ap, arith, inr, is_some, subst, sym}
-use Rattle.locked_store.proofs.Common.{FindsKeysOf, IsSoundStore, IsStart, Service, lock_of, opened_of}
+use Rattle.locked_store.proofs.Common.{FindsKeysOf, IfSome, IsSoundStore, IsStart, Service, ap, arith, inr, is_some, lock_of, opened_of, subst, sym}
 use Rattle.locked_store.proofs.held.SharedStore.open.Goals as goal
 
 pub new-requires-clause-stands : goal.new-requires-clause-stands

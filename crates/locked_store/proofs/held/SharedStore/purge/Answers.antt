@@ -1,6 +1,5 @@
-use Rattle.std.proofs.Common.{Err, None, Ok, Result, Some, ap, ◌≡◌}
+use Rattle.locked_store.proofs.Common.{DecidesAfter, Err, IfErr, IfErr-weaker, IfOk, IfOk-weaker, InvalidHandle, None, Ok, Plain, Result, Some, ap, model_request, there_rows, world, ◌≡◌}
 use Rattle.std.specs.FinMap as map
-use Rattle.locked_store.proofs.Common.{DecidesAfter, IfErr, IfErr-weaker, IfOk, IfOk-weaker, InvalidHandle, model_request, Plain, there_rows, world}
 use Rattle.locked_store.proofs.Turns.{IsTurned, counts_as, few, in_turn, ranked, steady, turned_after}
 use Rattle.locked_store.proofs.held.SharedStore.purge.Goals as goal
 use Rattle.locked_store.proofs.held.SharedStore.purge.Goals.{After-purge-purged}

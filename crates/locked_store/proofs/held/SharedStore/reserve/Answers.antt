@@ -1,6 +1,5 @@
-use Rattle.std.proofs.Common.{ap, subst, sym, ◌∷◌}
+use Rattle.locked_store.proofs.Common.{IsHolding, ap, filling_pair, subst, sym, ◌∷◌}
 use Rattle.locked_store.proofs.Owning.{one_filling_more}
-use Rattle.locked_store.proofs.Common.{IsHolding, filling_pair}
 use Rattle.locked_store.proofs.Turns.{after_giving, in_turn, stands_some, steady}
 use Rattle.locked_store.proofs.held.SharedStore.reserve.Goals as goal
 

@@ -1,5 +1,4 @@
-use Rattle.std.proofs.Common.{ap}
-use Rattle.locked_store.proofs.Common.{HasNumber, Plain, lease_pair, model_request, on_err_weaker, on_ok_weaker}
+use Rattle.locked_store.proofs.Common.{HasNumber, Plain, ap, lease_pair, model_request, on_err_weaker, on_ok_weaker}
 use Rattle.locked_store.proofs.Turns.{counts, few, in_turn, out, ranked, steady, steps, turned_after}
 use Rattle.locked_store.proofs.held.SharedStore.step.Goals as goal
 

@@ -1,5 +1,4 @@
-use Rattle.std.proofs.Common.{IfSome, ap, arith, length, length-take-le, subst, take, ◌∙◌, ◌≡◌}
-use Rattle.session_host.proofs.Common.{IsAnswered, reply_of, request_of, world}
+use Rattle.session_host.proofs.Common.{IfSome, IsAnswered, ap, arith, length, length-take-le, reply_of, request_of, subst, take, world, ◌∙◌, ◌≡◌}
 use Rattle.service_calls.specs.Meanings.{model_request}
 use Rattle.session_host.proofs.Told.{is_made}
 use Rattle.session_host.proofs.session.Session.call.Goals as goal

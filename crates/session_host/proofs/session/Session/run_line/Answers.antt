@@ -1,5 +1,4 @@
-use Rattle.std.proofs.Common.{IfOk, [], ap, inr, subst, ◌++◌, ◌∙◌, ◌∷◌}
-use Rattle.session_host.proofs.Common.{IsMade, IsNoted, request_of, world}
+use Rattle.session_host.proofs.Common.{IfOk, IsMade, IsNoted, [], ap, inr, request_of, subst, world, ◌++◌, ◌∙◌, ◌∷◌}
 use Rattle.session_host.proofs.Told.{answered_more, made_more}
 use Rattle.session_host.proofs.session.Session.run_line.Goals as goal
 

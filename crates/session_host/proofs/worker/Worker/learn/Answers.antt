@@ -1,5 +1,4 @@
-use Rattle.std.proofs.Common.{get_or-set_same, subst, sym, ◌∙◌}
-use Rattle.session_host.proofs.Common.{HasLearned, IsReady, StartsWith, entries_of, get_or_default, seen_begins, world}
+use Rattle.session_host.proofs.Common.{HasLearned, IsReady, StartsWith, entries_of, get_or-set_same, get_or_default, seen_begins, subst, sym, world, ◌∙◌}
 use Rattle.session_host.proofs.Meeting.{changes_set, has_learned}
 use Rattle.session_host.proofs.worker.Worker.learn.Goals as goal
 

@@ -1,5 +1,4 @@
-use Rattle.std.proofs.Common.{IfSome, ap, get_or, length, subst, sym, ◌<◌}
-use Rattle.session_host.proofs.Common.{ChangesAt, HasLearned, IsReady, Legal, StartsWith, entries_of, world}
+use Rattle.session_host.proofs.Common.{ChangesAt, HasLearned, IfSome, IsReady, Legal, StartsWith, ap, entries_of, get_or, length, subst, sym, world, ◌<◌}
 use Rattle.session_host.proofs.Meeting.{changes_none, item_of, learned_nothing}
 use Rattle.session_host.proofs.worker.Worker.meet.Goals as goal
 

@@ -1,5 +1,4 @@
-use Rattle.std.proofs.Common.{false, refl, take, ◌∙◌}
-use Rattle.session_host.proofs.Common.{world}
+use Rattle.session_host.proofs.Common.{false, refl, take, world, ◌∙◌}
 use Rattle.session_host.proofs.Working.{ran_next, stopped}
 use Rattle.session_host.proofs.worker.Worker.run.Goals as goal
 

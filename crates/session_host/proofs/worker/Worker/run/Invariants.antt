@@ -1,5 +1,4 @@
-use Rattle.std.proofs.Common.{take, true, ◌≡◌}
-use Rattle.session_host.proofs.Common.{HaveForm, HaveRun, ReplyForm, numbers_of, world}
+use Rattle.session_host.proofs.Common.{HaveForm, HaveRun, ReplyForm, numbers_of, take, true, world, ◌≡◌}
 use Rattle.session_host.proofs.worker.Worker.run.Given as goal
 
 abbrev pub invariant-loop-line : goal.invariant-loop-line

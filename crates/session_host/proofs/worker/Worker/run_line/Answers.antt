@@ -1,5 +1,4 @@
-use Rattle.std.proofs.Common.{All, Some, ap, arith, get_or, length, refl, subst, ◌<◌, ◌≡◌, ◌≢◌, ◌≤◌}
-use Rattle.session_host.proofs.Common.{Session, world}
+use Rattle.session_host.proofs.Common.{All, Session, Some, ap, arith, get_or, length, refl, subst, world, ◌<◌, ◌≡◌, ◌≢◌, ◌≤◌}
 use Rattle.std.specs.Vec.{with_item, with_items}
 use Rattle.session_host.proofs.Working.{answered_here, few_replies, ran_line, ran_none, same_form, same_numbers}
 use Rattle.session_host.proofs.worker.Worker.run_line.Goals as goal

@@ -1,5 +1,4 @@
-use Rattle.std.proofs.Common.{ap, set, ◌∙◌}
-use Rattle.std.proofs.lemmas.List.{set-get_or}
+use Rattle.session_host.proofs.Common.{ap, set, set-get_or, ◌∙◌}
 use Rattle.session_host.proofs.worker.Worker.watch.Goals as goal
 
 pub returns-clause-items : goal.returns-clause-items

@@ -1,8 +1,5 @@
-use Rattle.std.proofs.Common.{Some, subst, sym, ◌∙◌}
-use Rattle.turn_history.proofs.Common.{Closing, boxed_base, boxed_stands, some-injective}
-use Rattle.turn_history.proofs.Boxed.{closing_value}
-use Rattle.turn_history.proofs.Ends.{closes}
-use Rattle.turn_history.proofs.Keeping.{some_same}
+use Rattle.turn_history.proofs.Common.{Closing, Some, boxed_base, boxed_stands, some-injective, subst, sym, ◌∙◌}
+use Rattle.turn_history.proofs.{Boxed.closing_value, Ends.closes, Keeping.some_same}
 use Rattle.turn_history.proofs.ending.Ending.end.Goals as goal
 
 pub unreachable-requires : goal.unreachable-requires

@@ -1,5 +1,4 @@
-use Rattle.std.proofs.Common.{◌++◌, ◌≡◌}
-use Rattle.turn_history.proofs.Common.{accounts_of, weight_of}
+use Rattle.turn_history.proofs.Common.{accounts_of, weight_of, ◌++◌, ◌≡◌}
 use Rattle.turn_history.proofs.lock.HistoryLock.close.Given as goal
 
 abbrev pub invariant-loop-pass : goal.invariant-loop-pass

@@ -1,8 +1,5 @@
-use Rattle.std.proofs.Common.{Some, ap, arith, refl, rules, subst, sym, ◌∙◌, ◌≡◌}
-use Rattle.turn_history.proofs.Common.{Found, boxed_base, boxed_stands, entries_of}
-use Rattle.turn_history.proofs.Boxed.{found_value}
-use Rattle.turn_history.proofs.Lists.{entries_fewer}
-use Rattle.turn_history.proofs.Turning.{draws, looks, finds_value, Entered, enters}
+use Rattle.turn_history.proofs.Common.{Found, Some, ap, arith, boxed_base, boxed_stands, entries_of, rules, subst, sym, ◌∙◌, ◌≡◌}
+use Rattle.turn_history.proofs.{Lists.entries_fewer, Turning.draws, Turning.looks, Turning.finds_value}
 use Rattle.turn_history.proofs.lock.HistoryLock.enter.Goals as goal
 
 pub fetch_add-ticket-requires : goal.fetch_add-ticket-requires
@@ -17,29 +14,8 @@ exchange-requires g c = let m = c.loop.invariant.2 ∙ c.fetch_add-ticket.ensure
     let f = finds_value g.V.Historic.by (boxed_stands g.V.Historic.stands) (boxed_base g.V.Historic.base) (g.V.Historic.base c.args.self.now.table.shared.key.value.value) 0 c.args.self.now.table.shared.table_id.slots c.load-ended.result c.fetch_add-ticket.result c.loop.pass.me c.load-ended.new.seat.me
     c.load-ended.ensures.2 (ap (λ x. x.0.ticket) m) c.if-ended-ticket.true in (search rules, (Some f.0, f.1))
 
-pub unwrap-value-requires : goal.unwrap-value-requires
-unwrap-value-requires g c = let e = enters g.V.Historic.by (boxed_stands g.V.Historic.stands) (boxed_base g.V.Historic.base) (g.V.Historic.base c.args.self.now.table.shared.key.value.value) 0 c.args.self.now.table.shared.table_id.slots c.load-ended.result c.fetch_add-ticket.result
-    c.args.pass.now.me c.fetch_add-ticket.new.seat.me c.loop.pass.me c.load-ended.new.seat.me c.exchange.new.seat.me c.exchange.result
-    c.requires.free.0.2 c.fetch_add-ticket.ensures.2 c.loop.invariant.2 c.load-ended.ensures.2 c.if-ended-ticket.true c.exchange.ensures.2 c.exchange.ensures.3 in rw e.is refl
-
--- the turn that has begun
-it_entered : (g : _) (c : goal.After-drop-iterator g) → Entered g.V.Historic.by (boxed_stands g.V.Historic.stands) (boxed_base g.V.Historic.base) (g.V.Historic.base c.args.self.now.table.shared.key.value.value) 0 c.args.pass.now.me c.fetch_add-ticket.result c.exchange.result c.exchange.new.seat.me
-it_entered g c = enters g.V.Historic.by (boxed_stands g.V.Historic.stands) (boxed_base g.V.Historic.base) (g.V.Historic.base c.args.self.now.table.shared.key.value.value) 0 c.args.self.now.table.shared.table_id.slots c.load-ended.result c.fetch_add-ticket.result
-    c.args.pass.now.me c.fetch_add-ticket.new.seat.me c.loop.pass.me c.load-ended.new.seat.me c.exchange.new.seat.me c.exchange.result
-    c.requires.free.0.2 c.fetch_add-ticket.ensures.2 c.loop.invariant.2 c.load-ended.ensures.2 c.if-ended-ticket.true c.exchange.ensures.2 c.exchange.ensures.3
-
-pub returns-then-ended-ticket-clause-pass : goal.returns-then-ended-ticket-clause-pass
-returns-then-ended-ticket-clause-pass g c = (it_entered g c).now
-
 it_found : (g : _) (c : goal.After-drop-iterator g) (b : _) → c.exchange.result ≡ Some b → Found g.V.Historic.by g.V.Historic.stands g.V.Historic.base c.args.pass.now.me.0 b.value c.exchange.new.seat.me.0
-it_found g c = found_value g.V.Historic.by g.V.Historic.stands g.V.Historic.base (it_entered g c)
-
-pub returns-then-ended-ticket-clause-value : goal.returns-then-ended-ticket-clause-value
-returns-then-ended-ticket-clause-value g c = it_found g c c.unwrap-value.result c.unwrap-value.ensures
-
-pub returns-then-ended-ticket-clause-entries : goal.returns-then-ended-ticket-clause-entries
-returns-then-ended-ticket-clause-entries g c = let f = it_found g c c.unwrap-value.result c.unwrap-value.ensures in
-    c.entries-entries.ensures _ _ (subst (λ x. g.V.Historic.stands x (entries_of c.exchange.new.seat.me.0.seen) c.exchange.new.seat.me.0.holdings) (sym c.as_ref.ensures) f.stood)
+it_found g c = search rules
 
 pub returns-then-ended-ticket-clause-few : goal.returns-then-ended-ticket-clause-few
 returns-then-ended-ticket-clause-few g c = let f = it_found g c c.unwrap-value.result c.unwrap-value.ensures in let few = f.few in let n = entries_fewer c.exchange.new.seat.me.0.seen in

@@ -1,5 +1,4 @@
-use Rattle.std.proofs.Common.{[], ap, replicate, rules, subst, sym, ◌∙◌}
-use Rattle.turn_history.proofs.Common.{boxed_base, boxed_stands}
+use Rattle.turn_history.proofs.Common.{[], ap, boxed_base, boxed_stands, replicate, rules, subst, sym, ◌∙◌}
 use Rattle.turn_history.proofs.Ends.{opens}
 use Rattle.turn_history.proofs.lock.HistoryLock.new.Goals as goal
 

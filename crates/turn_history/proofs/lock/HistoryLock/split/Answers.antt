@@ -1,5 +1,4 @@
-use Rattle.std.proofs.Common.{rules}
-use Rattle.turn_history.proofs.Common.{boxed_base, boxed_stands}
+use Rattle.turn_history.proofs.Common.{boxed_base, boxed_stands, rules}
 use Rattle.turn_history.proofs.Splitting.{watches}
 use Rattle.turn_history.proofs.lock.HistoryLock.split.Goals as goal
 

@@ -1,5 +1,4 @@
-use Rattle.std.proofs.Common.{[], rules}
-use Rattle.turn_history.proofs.Common.{boxed_base, boxed_stands, first_view}
+use Rattle.turn_history.proofs.Common.{[], boxed_base, boxed_stands, first_view, rules}
 use Rattle.turn_history.proofs.Ends.{sits}
 use Rattle.turn_history.proofs.lock.HistoryLock.start_ending.Goals as goal
 
