@@ -150,14 +150,38 @@ fn held_after_purge<D: Disk, A: Devices, C: Admission>(
     Some(is_held(store, id))
 }
 
+// Whether each key from one on and up to another is in memory, or whether none is.
+fn are_held<D: Disk, A: Devices, C: Admission>(
+    store: &Keeper<D, A, C>,
+    first: u32,
+    last: u32,
+    held: bool,
+) -> bool
+    requires few { last ≤ 512 }
+{
+    for id in first..last + 1 {
+        if is_held(store, id) != held {
+            return false;
+        }
+    }
+    true
+}
+
+// Of the keys from 1 to 400, each exported in turn, whether the last 384 are in memory and the others aren't.
+fn keeps_last<D: Disk, A: Devices, C: Admission>(store: &mut Keeper<D, A, C>) -> Option<bool> {
+    export_each(store, 1, 400)?;
+    Some(are_held(store, 1, 16, false) && are_held(store, 17, 400, true))
+}
+
 // What `watch` answers.
-fn watch_keys<D: Disk, A: Devices, C: Admission>(store: &mut Keeper<D, A, C>) -> Option<[bool; 5]> {
+fn watch_keys<D: Disk, A: Devices, C: Admission>(store: &mut Keeper<D, A, C>) -> Option<[bool; 6]> {
     let opened = is_held(store, 1);
     let filled = held_after(store, 1, 384, 1)?;
     let evicted = held_after(store, 385, 385, 1)?;
     let other = held_after(store, 1, 1, 2)?;
     let purged = held_after_purge(store, 1)?;
-    Some([opened, filled, evicted, other, purged])
+    let last = keeps_last(store)?;
+    Some([opened, filled, evicted, other, purged, last])
 }
 
 fn watched<A: Devices, C: Admission>(
@@ -165,7 +189,7 @@ fn watched<A: Devices, C: Admission>(
     disk: MemoryDisk,
     devices: A,
     rules: C,
-) -> Option<[bool; 5]>
+) -> Option<[bool; 6]>
     requires { A.keys devices ≡ Some no_keys }
 {
     let mut store = opened(alloc, disk, devices, rules)?;
@@ -173,8 +197,9 @@ fn watched<A: Devices, C: Admission>(
 }
 
 /// Of a full store, whether key 1 is in memory at first, after the exports of 384 keys from it on, and after one more; whether
-/// key 2 is after key 1 was exported again; and whether key 1 is after it was purged then.
-pub fn watch(alloc: Global, disk: MemoryDisk) -> Option<[bool; 5]> {
+/// key 2 is after key 1 was exported again; whether key 1 is after it was purged then; and whether the last 384 of the keys from
+/// 1 to 400 are, and no other of these, after the exports of all in turn.
+pub fn watch(alloc: Global, disk: MemoryDisk) -> Option<[bool; 6]> {
     let rules = Rules::pick(Vec::new(alloc), &[]);
     watched(alloc, disk, Drivers::new(Vec::new(alloc)), rules)
 }

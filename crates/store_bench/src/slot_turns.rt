@@ -9,15 +9,13 @@ use secret_bytes::Secret;
 use slot_table::SlotTable;
 use std::alloc::Global;
 
-// Looks for the last two of 384 keys in turn.
-fn look(table: &SlotTable, turns: usize) -> u32 {
+// Looks for the last two of 384 keys in turn. `None` where one isn't there.
+fn look(table: &SlotTable, turns: usize) -> Option<u32> {
     let mut last = 0;
     'looks: for turn in 0..turns {
-        if let Some(slot) = table.find(KeyId(384 - (turn & 1) as u32)) {
-            last = slot;
-        }
+        last = table.find(KeyId(384 - (turn & 1) as u32))?;
     }
-    last
+    Some(last)
 }
 
 // Takes and gives back a lease of the key that was used last.
@@ -55,7 +53,7 @@ pub fn run(alloc: Global, call: &str, turns: &str) -> Option<u32> {
     let spare = Secret::new(alloc).ok()?;
     let filled = fill(&mut table, 384);
     match call {
-        "find" => Some(look(&table, turns)),
+        "find" => look(&table, turns),
         "lease" => {
             read_last(&mut table, spare, turns);
             Some(filled)

@@ -12,7 +12,7 @@ fn exports(alloc: Global) -> Option<(u32, u32)> {
 }
 
 // Which keys of a full store are in memory.
-fn watch_full(alloc: Global) -> Option<[bool; 5]> {
+fn watch_full(alloc: Global) -> Option<[bool; 6]> {
     watch(alloc, full_disk(alloc)?)
 }
 
@@ -36,6 +36,10 @@ pub fn print_full(rt: &HostRuntime) -> io::Result<bool> {
     )?;
     println!(rt;
         "key 2 in memory after key 1 was exported again: {other}, key 1 after a purge: {purged}"
+    )?;
+    let last = word(seen[5]);
+    println!(rt;
+        "the last 384 of 400 keys in memory after each was exported, and no other: {last}"
     )?;
     Ok(true)
 }
