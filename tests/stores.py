@@ -11,10 +11,13 @@ Files that can't be written past some length, since the system permits no larger
 ends with status 6. A creation or destruction that has to is STORAGE_FAILURE; its key is then gone, and so it is with each
 further one while the first key's cell can't be closed. A run without that limit has the other keys again.
 
+A file that the program wrote when policies had one algorithm, former.store.gz: its keys mean what they meant then.
+
 The status is 1 where the program answered otherwise.
 """
 
 import functools
+import gzip
 import os
 import resource
 import signal
@@ -29,7 +32,7 @@ from service import AES_KEY, CELL_COUNT, HMAC_KEY, OF_THE_ELEMENT, PERSISTENT, K
 from store_file import CELL_LENGTH, HEADER, OPEN, cell, image
 
 RAW_DATA = 0x1001
-KEYS = [Key(PERSISTENT, place + 1, 0, RAW_DATA, 24, 1, 0, bytes([place, 1, 2])) for place in range(6)]
+KEYS = [Key(PERSISTENT, place + 1, 0, RAW_DATA, 24, 1, (0, 0), bytes([place, 1, 2])) for place in range(6)]
 GOOD = image(KEYS + [None] * (CELL_COUNT - len(KEYS)))
 DAMAGED, LAST = 3, CELL_COUNT - 1
 KEY = KEYS[DAMAGED]
@@ -71,7 +74,6 @@ def damages():
     yield "an unknown usage", changed(usage=9)
     yield "SIGN_HASH without SIGN_MESSAGE", changed(key_type=HMAC_KEY, usage=0x1000)
     yield "VERIFY_HASH without VERIFY_MESSAGE", changed(key_type=HMAC_KEY, usage=0x2400)
-    yield "a second algorithm", patched(RECORD_AT + 28, b"\1")
     yield "a key of no bytes", changed(bits=0, data=b"")
     yield "a key of 1,025 bytes", changed(bits=8 * 1025, data=bytes(1025))
     yield "a length past the cell", patched(RECORD_AT + 32, b"\0\0\0\1")
@@ -89,7 +91,8 @@ def cells_that_open():
     for name, values in (
         ("a key of 1,024 bytes", {"bits": 8 * 1024, "data": bytes(range(256)) * 4}),
         ("the last identifier", {"identifier": 0x3FFFFFFF}),
-        ("any algorithm", {"algorithm": 0xFFFFFFFF}),
+        ("any algorithms", {"algorithms": (0xFFFFFFFF, 0x80000001)}),
+        ("a second algorithm alone", {"algorithms": (0, 1)}),
     ):
         key = replace(KEY, **values)
         yield name, cell(key), key
@@ -120,6 +123,36 @@ AFTERWARDS = (
     ("export #b", "INVALID_HANDLE"),
     ("export #c", "INVALID_HANDLE"),
     ("import k life=1 id=a type=1001 usage=1 alg=0 data=aa", "SUCCESS 0000000a"),
+)
+
+
+# calls on the keys of the file that the program wrote when policies had one algorithm; what they compute stands in FIPS 197,
+# RFC 4231, RFC 4493, SP 800-38D and RFC 5869
+FORMER = (
+    ("attributes #1", "SUCCESS 00000001000000012400008000000702" + "04c01000"),
+    ("attributes #8", "SUCCESS 00000001000000081100002000000800" + "03908009"),
+    ("attributes #7", "SUCCESS 0000000100000007120300380000" + "8007ffffffff"),
+    ("export #7", "SUCCESS 70617373776f7264"),
+    ("export #3", "INVALID_HANDLE"),
+    ("export #1", "NOT_PERMITTED"),
+    ("export #3fffffff", "SUCCESS 000102030405060708090a0b0c0d0e0f1011121314151617"),
+    ("cipher_encrypt #3fffffff alg=04404400 data=00112233445566778899aabbccddeeff", "SUCCESS dda97ca4864cdfe06eaf70a0ec0d7191"),
+    ("cipher_encrypt #3fffffff alg=04c01000 data=", "NOT_PERMITTED"),
+    (
+        "mac_compute #2 alg=03800009 data=7768617420646f2079612077616e7420666f72206e6f7468696e673f",
+        "SUCCESS 5bdcc146bf60754e6a042426089575c75a003f089d2739839dec58b964ec3843",
+    ),
+    ("mac_compute #2 alg=03840009 data=", "NOT_PERMITTED"),
+    ("mac_compute #4 alg=03c00200 data=", "SUCCESS bb1d6929e95937287fa37d129b756746"),
+    ("aead_encrypt #5 alg=05500200 nonce=000000000000000000000000 data=", "SUCCESS 58e2fccefa7e3061367f1d57a4e7455a"),
+    ("kdf_setup 1 alg=08000109", "SUCCESS"),
+    ("kdf_input_bytes 1 step=202 data=000102030405060708090a0b0c", "SUCCESS"),
+    ("kdf_input_key 1 #6 step=101", "SUCCESS"),
+    ("kdf_input_bytes 1 step=203 data=f0f1f2f3f4f5f6f7f8f9", "SUCCESS"),
+    (
+        "kdf_output_bytes 1 len=42",
+        "SUCCESS 3cb25f25faacd57a90434f64d0362f2a2d2d0a90cf1a5a4c5db02d56ecc4c5bf34007208d5b887185865",
+    ),
 )
 
 
@@ -211,12 +244,19 @@ def try_failing_writes(trial):
     trial.answer("after writes that failed", AFTERWARDS)
 
 
+def try_former_file(trial):
+    with gzip.open(os.path.join(os.path.dirname(os.path.realpath(__file__)), "former.store.gz")) as file:
+        trial.put(file.read())
+    trial.answer("a file with one algorithm in each policy", FORMER)
+
+
 def main():
     with scratch() as folder:
         trial = Trial(program_of(sys.argv), os.path.join(folder, "store"))
         try_refusals(trial)
         try_openings(trial)
         try_failing_writes(trial)
+        try_former_file(trial)
     print(f"stores: {trial.count} runs, {'failed' if trial.has_failed else 'passed'}")
     return 1 if trial.has_failed else 0
 

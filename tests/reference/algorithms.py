@@ -1,4 +1,4 @@
-"""Algorithm numbers and what a policy's number permits, for comparison alone."""
+"""Algorithm numbers and what a policy's numbers permit, for comparison alone."""
 
 HASHES = {8: "sha224", 9: "sha256", 10: "sha384", 11: "sha512"}
 DIGEST_LENGTHS = {8: 28, 9: 32, 10: 48, 11: 64}
@@ -81,6 +81,11 @@ def permits(policy, alg):
     if minimum(policy):
         return base(policy) == base(alg) and tag_length(alg) >= minimum(policy)
     return is_concrete(policy) and is_same(policy, alg)
+
+
+def allows(numbers, alg):
+    """Whether one of a policy's numbers permits a call's."""
+    return any(permits(number, alg) for number in numbers)
 
 
 def meet(source, stated):

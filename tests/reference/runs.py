@@ -7,7 +7,7 @@ from dataclasses import dataclass
 from operations import Refused
 
 ROOM = 16448
-HEX_FIELDS = ("type", "usage", "alg", "life", "id", "step")
+HEX_FIELDS = ("type", "usage", "alg", "alg2", "life", "id", "step")
 REPLY = re.compile(r"([0-9]+\.[0-9]+) @(0|[1-9][0-9]*) [A-Z_]+( ([0-9a-f]{2})+)?")
 
 

@@ -132,18 +132,18 @@ class Script:
         """Mostly a class that a key of the session is for."""
         kinds = [alg.class_of(self.policies[session, name]) for name in self.run.living(session)]
         if self.random.random() < self.mix.by_identifier:
-            kinds = [alg.class_of(key.algorithm) for key in self.run.service.keys.values()]
+            kinds = [alg.class_of(number) for key in self.run.service.keys.values() for number in key.algorithms]
         return self.often([kind for kind in kinds if kind in NUMBERS] + ["hash"], [*NUMBERS])
 
     def key(self, session, kind=None):
-        """A key whose policy is of this class, if there is one, and now and then any other; and its policy's number."""
+        """A key whose policy is of this class, if there is one, and now and then any other; and a number of its policy's."""
         keys = self.run.service.keys
         if keys and self.random.random() < self.mix.by_identifier:
-            fits = lambda identifier: not kind or alg.class_of(keys[identifier].algorithm) == kind
+            fits = lambda identifier: not kind or kind in map(alg.class_of, keys[identifier].algorithms)
             persistent = [identifier for identifier in keys if identifier <= LAST_PERSISTENT]
             among = self.often([persistent or [*keys]], [[*keys]], 0.7)
             identifier = self.often([*filter(fits, among)] or among, among)
-            return ("key", f"#{identifier:x}"), keys[identifier].algorithm
+            return ("key", f"#{identifier:x}"), self.random.choice([*filter(None, keys[identifier].algorithms)] or [0])
         known, living = self.run.named(session), self.run.living(session)
         fitting = [name for name in living if alg.class_of(self.policies[session, name]) == kind] or living or known
         if self.random.random() < 0.95:
@@ -203,8 +203,11 @@ class Script:
                 place = {"life": OF_THE_ELEMENT}
             number = self.often([policy], [number, self.variant(policy)], 0.5)
             fields = {"usage": usage, "alg": number} | self.maybe(0.1, type=key_type) | self.maybe(0.05, bits=128)
+            if source and source.algorithms[1]:
+                fields |= self.maybe(0.7, alg2=self.often([source.algorithms[1]], [self.variant(source.algorithms[1])], 0.6))
             return Line(session, command, [self.new_name(session, number), key], fields | place)
         fields = {"type": key_type, "usage": usage, "alg": number}
+        fields |= self.maybe(0.25, alg2=self.often([self.variant(pick(numbers))], [self.any_number(), 0], 0.8))
         if command == "import":
             fields |= {"data": self.data(count)} | self.maybe(0.1, bits=pick([0, 8 * count, 8 * count + 1]))
         else:
@@ -356,6 +359,7 @@ class Script:
         bits = self.often([128, 192, 256], [0, 7, 8, 8200, 65528])
         fields = {"type": self.often([0x2400], [0x1100, 0x1001, 5]), "bits": bits}
         fields |= {"usage": self.often([ALL_USAGES], [0x300, 0x10000]), "alg": pick(CIPHERS + AEADS)}
+        fields |= self.maybe(0.2, alg2=pick(CIPHERS + AEADS))
         return line("kdf_output_key", self.new_name(session, fields["alg"]), **fields, **self.place())
 
     def disturbed(self, session, calls):

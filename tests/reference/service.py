@@ -29,16 +29,20 @@ class Key:
     key_type: int
     bits: int
     usage: int
-    algorithm: int
+    algorithms: tuple  # the policy's two numbers
     data: bytes
 
     def is_in_the_element(self):
         return self.lifetime == OF_THE_ELEMENT
 
 
+def stated_algorithms(fields):
+    return fields["alg"], fields.get("alg2", 0)
+
+
 def narrowed(key, rules):
     """What the admission rules leave of a key that is to be created."""
-    require("no-ecb" not in rules or key.algorithm != alg.ECB, "NOT_PERMITTED")
+    require("no-ecb" not in rules or alg.ECB not in key.algorithms, "NOT_PERMITTED")
     require("aes256" not in rules or key.key_type != AES_KEY or key.bits == 256, "NOT_PERMITTED")
     without = (EXPORT if "no-export" in rules else 0) | (COPY if "no-copy" in rules else 0)
     return replace(key, usage=key.usage & ~without)
@@ -71,7 +75,7 @@ class Service:
 
     # Creations
 
-    def create(self, session, fields, key_type, usage, bits, algorithm, count, data):
+    def create(self, session, fields, key_type, usage, bits, algorithms, count, data):
         """Adds a key of so many bytes, which `data` gives once nothing refuses the creation."""
         lifetime, identifier = fields.get("life", 0), fields.get("id", 0)
         require(lifetime in (VOLATILE, PERSISTENT, OF_THE_ELEMENT), "NOT_SUPPORTED")
@@ -81,7 +85,7 @@ class Service:
         require(count in (16, 24, 32) if key_type == AES_KEY else 1 <= count <= 1024, "INVALID_ARGUMENT")
         require(bits in (0, 8 * count), "INVALID_ARGUMENT")
         usage |= (SIGN if usage & SIGN_HASH else 0) | (VERIFY if usage & VERIFY_HASH else 0)
-        key = narrowed(Key(lifetime, identifier, session, key_type, 8 * count, usage, algorithm, b""), self.rules)
+        key = narrowed(Key(lifetime, identifier, session, key_type, 8 * count, usage, algorithms, b""), self.rules)
         if lifetime == PERSISTENT:
             require(identifier not in self.keys, "ALREADY_EXISTS")
             require(None in self.cells, "INSUFFICIENT_STORAGE")
@@ -100,7 +104,14 @@ class Service:
     def import_(self, session, fields):
         data = fields["data"]
         return self.create(
-            session, fields, fields["type"], fields["usage"], fields.get("bits", 0), fields["alg"], len(data), lambda: data
+            session,
+            fields,
+            fields["type"],
+            fields["usage"],
+            fields.get("bits", 0),
+            stated_algorithms(fields),
+            len(data),
+            lambda: data,
         )
 
     def generate(self, session, fields):
@@ -108,7 +119,7 @@ class Service:
         require(bits and bits % 8 == 0, "INVALID_ARGUMENT")
         drawn = lambda: self.draw(session, bits // 8)
         return self.create(
-            session, fields, fields["type"], fields["usage"], bits, fields["alg"], bits // 8, drawn
+            session, fields, fields["type"], fields["usage"], bits, stated_algorithms(fields), bits // 8, drawn
         )
 
     def copy(self, session, fields):
@@ -117,8 +128,8 @@ class Service:
         require(fields.get("type", 0) in (0, source.key_type), "INVALID_ARGUMENT")
         require(fields.get("bits", 0) in (0, source.bits), "INVALID_ARGUMENT")
         require(location(fields.get("life", 0)) == location(source.lifetime), "NOT_SUPPORTED")
-        met = alg.meet(source.algorithm, fields["alg"])
-        require(met is not None, "INVALID_ARGUMENT")
+        met = tuple(map(alg.meet, source.algorithms, stated_algorithms(fields)))
+        require(None not in met, "INVALID_ARGUMENT")
         usage = fields["usage"] & source.usage
         return self.create(
             session, fields, source.key_type, usage, source.bits, met, len(source.data), lambda: source.data
@@ -137,7 +148,7 @@ class Service:
     def usable_key(self, fields, kind, usage, is_whole=False):
         number, key = fields["alg"], self.key(fields)
         self.check_class(number, kind)
-        require(key.usage & usage and alg.permits(key.algorithm, number), "NOT_PERMITTED")
+        require(key.usage & usage and alg.allows(key.algorithms, number), "NOT_PERMITTED")
         require(key.key_type == (HMAC_KEY if alg.base(number) in alg.HMACS else AES_KEY), "INVALID_ARGUMENT")
         # the secure element makes MACs and CTR, each in one call
         in_element = is_whole and (kind == "mac" or number == alg.CTR)
@@ -146,7 +157,7 @@ class Service:
 
     def derivation_key(self, fields, number):
         key = self.key(fields)
-        require(key.usage & DERIVE and alg.permits(key.algorithm, number), "NOT_PERMITTED")
+        require(key.usage & DERIVE and alg.allows(key.algorithms, number), "NOT_PERMITTED")
         return key
 
     def destroy(self, session, fields):
@@ -164,7 +175,8 @@ class Service:
     def attributes(self, session, fields):
         key = self.key(fields)
         parts = ((key.lifetime, 4), (key.identifier, 4), (key.key_type, 2), (key.bits, 2))
-        parts += ((key.usage, 4), (key.algorithm, 4))
+        first, second = key.algorithms
+        parts += ((key.usage, 4), (first, 4)) + (((second, 4),) if second else ())
         return b"".join(value.to_bytes(width, "big") for value, width in parts)
 
     def export(self, session, fields):

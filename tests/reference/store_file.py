@@ -11,8 +11,7 @@ RECORD = struct.Struct("<8sIIHHIIII")
 
 
 def record(key):
-    algorithms = (key.algorithm, 0)
-    head = RECORD.pack(b"PSA\0KEY\0", 0, key.lifetime, key.key_type, key.bits, key.usage, *algorithms, len(key.data))
+    head = RECORD.pack(b"PSA\0KEY\0", 0, key.lifetime, key.key_type, key.bits, key.usage, *key.algorithms, len(key.data))
     return head + key.data
 
 

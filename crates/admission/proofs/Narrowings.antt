@@ -5,7 +5,7 @@ use Rattle.psa_status.specs.declared.Status.{Status}
 use Rattle.policy_rules.specs.declared.narrowing.Label.TheVariants.{NoExport, NoCopy, NoEcb, Aes256}
 use Rattle.policy_rules.specs.declared.narrowing.Verdict.{Verdict}
 use Rattle.policy_rules.specs.declared.narrowing.Verdict.TheVariants.{Keep, Refuse}
-use Rattle.policy_rules.specs.Narrow.{narrowed, after_verdict, KeepsWithin}
+use Rattle.policy_rules.specs.Narrow.{names_ecb, narrowed, after_verdict, KeepsWithin}
 use Rattle.policy_rules.proofs.Rules.{narrowed-within}
 use Rattle.policy_rules.proofs.Copies.{IsWithin-refl, IsWithin-trans}
 
@@ -21,7 +21,7 @@ kept_or_refused false a = refl
 narrowed-rest : (label : Label) (a : Attributes) → KeepsRest a (narrowed label a)
 narrowed-rest NoExport a = refl
 narrowed-rest NoCopy a = refl
-narrowed-rest NoEcb a = kept_or_refused (eqb a.policy.alg 0x04404400) a
+narrowed-rest NoEcb a = kept_or_refused (names_ecb a.policy) a
 narrowed-rest Aes256 a = kept_or_refused (eqb a.key_type.0 0x2400 && not (eqb a.bits 256)) a
 
 narrows_none : (a : Attributes) → Narrows a a

@@ -15,7 +15,7 @@ is_one_of labels label = list_any (λ other. bytes_eq (label_word other) (label_
 abbrev pub picked : (named list : List Label) → List Label
 picked named list = filter (is_one_of named) list
 
--- beside the policy all is as it was, and the policy has no flag and permits no algorithm that the one before doesn't
+-- beside the policy all is as it was, and the policy has no flag and allows no algorithm that the one before doesn't
 pub record Narrows (before after : Attributes) : Type 0 where
   pub policy : IsWithin after.policy before.policy
   pub rest : after ≡ record before { policy = after.policy }

@@ -3,7 +3,7 @@ ghost use Rattle.std.specs.Prelude.{◌≡◌, ◌≤◌, ◌<◌, ◌+◌, ◌^
 ghost use Rattle.std.specs.Result.{result_err};
 ghost use Rattle.psa_status.specs.declared.Status.TheVariants.{InvalidSignature};
 ghost use Rattle.psa_status.specs.Rows.{first_row};
-ghost use Rattle.store_model.specs.Prelude.{tag_bytes, buffer_after, given, reply_unless, room_rows, total_limit, whole_rows, work_tag, AeadWork, aead_due, aead_fresh, aead_update_rows, is_past_payload, is_whole_ad, is_whole_payload, update_ad_rows, with_ad, with_payload};
+ghost use Rattle.store_model.specs.Prelude.{tag_bytes, buffer_after, given, reply_unless, room_rows, total_limit, whole_rows, work_tag, AeadWork, aead_due, aead_fresh, aead_update_rows, is_past_payload, is_whole_ad, is_whole_payload, update_ad_rows, with_payload};
 ghost use Rattle.aead_states.specs.Holding.{HoldsAead};
 ghost use Rattle.aead_states.specs.Counted.{aead_text_rows, with_begun_text};
 
@@ -18,7 +18,7 @@ impl RunningAead {
     pub(crate) fn update_ad(&mut self, input: &[u8]) -> Result<(), Status>
         ensures refusal { (w : AeadWork) → HoldsAead self.old w →
             result_err result ≡ first_row (update_ad_rows w input.now) }
-        ensures holds { (w : AeadWork) → HoldsAead self.old w → OnOk result (HoldsAead self.new (with_ad w input.now)) }
+        ensures holds { (w : AeadWork) → HoldsAead self.old w → OnOk result (HoldsAead self.new (record w { ad = w.ad ++ input.now })) }
     {
         if !self.has_nonce || self.has_text {
             return Err(Status::BadState);

@@ -40,7 +40,7 @@ impl<D: Disk, A: Devices, C: Admission, G: Gate, R: Wait> Client<'_, D, A, C, G,
         self.tell(&Call::OnStore(StoreCall::Create(Creation::Generate(*attributes))))
     }
 
-    /// Makes a key of another's bytes, whose policy permits what both policies do, and gives its identifier. `InvalidHandle`
+    /// Makes a key of another's bytes, whose policy is the meet of both policies, and gives its identifier. `InvalidHandle`
     /// where there is no such key, `NotPermitted` where it may not be copied, and then the refusals of `import_key`.
     pub fn copy_key(&mut self, source: KeyId, attributes: &Attributes) -> Reply<KeyId>
         ensures { Answers (changes (key_changes.Copy source attributes.now)) identifier_of self.old self.new [] [] result }

@@ -3,21 +3,9 @@ ghost use Rattle.std.specs.Prelude.{◌≡◌};
 ghost use Rattle.service_calls.specs.declared.output.Output.{Output};
 ghost use Rattle.caller_service.specs.Given.{description_of, identifier_of, length_of, nothing, number_of};
 
-use key_attributes::{Attributes, KeyId, KeyType, Lifetime, Policy, Usage};
+use key_attributes::{Attributes, KeyId};
 use psa_status::Status;
 use service_calls::Output;
-
-// Of an answer that describes no key.
-const NO_ATTRIBUTES: Attributes = Attributes {
-    lifetime: Lifetime(0),
-    id: KeyId(0),
-    key_type: KeyType(0),
-    bits: 0,
-    policy: Policy {
-        usage: Usage(0),
-        alg: 0,
-    },
-};
 
 /// What a call answers: its rank, which it has unless it is refused with `PassWorn`, and what it gives.
 #[derive(Clone, Copy, Drop)]
@@ -80,7 +68,7 @@ impl Given for Attributes {
     fn of(output: Output) -> Attributes {
         match output {
             Output::Description(attributes) => attributes,
-            _ => NO_ATTRIBUTES,
+            _ => Attributes::NONE,
         }
     }
 }

@@ -17,13 +17,13 @@ use std::sync::Wait;
 /// What all calls of the trial count together, with none to spare.
 pub const BUDGET: u64 = 14;
 
-const SHA_256: u32 = 0x0200_0009;
+const SHA_256: Alg = Alg(0x0200_0009);
 
-const CMAC: u32 = 0x03c0_0200;
+const CMAC: Alg = Alg(0x03c0_0200);
 
-const GCM: u32 = 0x0550_0200;
+const GCM: Alg = Alg(0x0550_0200);
 
-const CBC_PKCS7: u32 = 0x0440_4100;
+const CBC_PKCS7: Alg = Alg(0x0440_4100);
 
 const SIGN: u32 = 0x400;
 
@@ -75,7 +75,7 @@ fn import<D: Disk, A: Devices, C: Admission, R: Wait>(
     client: &mut Client<'_, D, A, C, NoGate, R>,
     lifetime: u32,
     usage: u32,
-    alg: u32,
+    alg: Alg,
     bytes: &[u8],
 ) -> KeyId
     ensures { client.new.service.now ≡ client.old.service.now }
@@ -88,6 +88,7 @@ fn import<D: Disk, A: Devices, C: Admission, R: Wait>(
         policy: Policy {
             usage: Usage(usage),
             alg,
+            ..Policy::NOTHING
         },
     };
     client
@@ -107,7 +108,7 @@ fn compute_mac<D: Disk, A: Devices, C: Admission, R: Wait>(
 ) -> Result<(), AllocError>
     ensures { client.new.service.now ≡ client.old.service.now }
 {
-    let computed = client.mac_compute(key, Alg(CMAC), message, mac);
+    let computed = client.mac_compute(key, CMAC, message, mac);
     tell(alloc, page, computed.result, mac)
 }
 
@@ -135,7 +136,7 @@ fn open_sealed<D: Disk, A: Devices, C: Admission, R: Wait>(
 {
     let key = import(client, VOLATILE, DECRYPT, GCM, &[0; 16]);
     let mut text = [7; 17];
-    let opened = client.aead_decrypt(key, Alg(GCM), &[0; 12], b"a", &SEALED, &mut text);
+    let opened = client.aead_decrypt(key, GCM, &[0; 12], b"a", &SEALED, &mut text);
     tell(alloc, page, opened.result, &text)
 }
 
@@ -150,7 +151,7 @@ fn decipher<D: Disk, A: Devices, C: Admission, R: Wait>(
     ensures { client.new.service.now ≡ client.old.service.now }
 {
     let mut text = [7; 17];
-    let deciphered = client.cipher_decrypt(key, Alg(CBC_PKCS7), input, &mut text);
+    let deciphered = client.cipher_decrypt(key, CBC_PKCS7, input, &mut text);
     tell(alloc, page, deciphered.result, &text)
 }
 
@@ -176,7 +177,7 @@ fn begin_hash<D: Disk, A: Devices, C: Admission, R: Wait>(
 )
     ensures { client.new.service.now ≡ client.old.service.now }
 {
-    let _ = client.hash_setup(op, Alg(SHA_256));
+    let _ = client.hash_setup(op, SHA_256);
     let _ = client.hash_update(op, b"abc");
 }
 

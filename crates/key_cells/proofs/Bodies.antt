@@ -107,9 +107,7 @@ module _ (cell head : List ℕ) (head_is : head ≡ take 36 (drop 16 cell)) wher
             some = r.kept.some;
             short = r.kept.short;
             usage = r.kept.usage;
-            type_fits = r.kept.type_fits;
-            usage_fits = r.kept.usage_fits;
-            alg_fits = r.kept.alg_fits;
+            fits = record { key_type = r.kept.fits.key_type; usage = r.kept.fits.usage; alg = r.kept.fits.alg; alg2 = r.kept.fits.alg2 };
           };
           named = named;
         };
@@ -138,19 +136,19 @@ body_made a key front long out first second short front_is record_is long_is fir
     ∙ ap (λ (r : List ℕ). front_of a.id.0 ++ spelling a key ++ r) rest))
 
 -- attributes are what their fields are
-abbrev attributes_with : ℕ → ℕ → ℕ → ℕ → ℕ → ℕ → Attributes
-attributes_with lifetime id key_type bits usage alg = record {
+abbrev attributes_with : ℕ → ℕ → ℕ → ℕ → ℕ → ℕ → ℕ → Attributes
+attributes_with lifetime id key_type bits usage alg alg2 = record {
   lifetime = record { 0 = lifetime };
   id = record { 0 = id };
   key_type = record { 0 = key_type };
   bits = bits;
-  policy = record { usage = record { 0 = usage }; alg = alg };
+  policy = record { usage = record { 0 = usage }; alg = record { 0 = alg }; alg2 = record { 0 = alg2 } };
 }
 
-pub same_attributes : (a b : Attributes) → a.lifetime.0 ≡ b.lifetime.0 → a.id.0 ≡ b.id.0 → a.key_type.0 ≡ b.key_type.0 → a.bits ≡ b.bits → a.policy.usage.0 ≡ b.policy.usage.0 → a.policy.alg ≡ b.policy.alg → a ≡ b
-same_attributes a b lifetime id key_type bits usage alg =
-    let made : attributes_with a.lifetime.0 a.id.0 a.key_type.0 a.bits a.policy.usage.0 a.policy.alg ≡ attributes_with b.lifetime.0 b.id.0 b.key_type.0 b.bits b.policy.usage.0 b.policy.alg =
-    rw (lifetime, id, key_type, bits, usage, alg) refl in
+pub same_attributes : (a b : Attributes) → a.lifetime.0 ≡ b.lifetime.0 → a.id.0 ≡ b.id.0 → a.key_type.0 ≡ b.key_type.0 → a.bits ≡ b.bits → a.policy.usage.0 ≡ b.policy.usage.0 → a.policy.alg.0 ≡ b.policy.alg.0 → a.policy.alg2.0 ≡ b.policy.alg2.0 → a ≡ b
+same_attributes a b lifetime id key_type bits usage alg alg2 =
+    let made : attributes_with a.lifetime.0 a.id.0 a.key_type.0 a.bits a.policy.usage.0 a.policy.alg.0 a.policy.alg2.0 ≡ attributes_with b.lifetime.0 b.id.0 b.key_type.0 b.bits b.policy.usage.0 b.policy.alg.0 b.policy.alg2.0 =
+    rw (lifetime, id, key_type, bits, usage, alg, alg2) refl in
     made
 
 given : (refusal : Option Status) (value answer : ℕ) → unless refusal value ≡ Ok answer → value ≡ answer
@@ -162,14 +160,16 @@ pub record Numbers (a : Attributes) (head : List ℕ) : Type 0 where
   pub key_type : from_le_bytes w16 (take 2 (drop 16 head)) ≡ a.key_type.0
   pub bits : from_le_bytes w16 (take 2 (drop 18 head)) ≡ a.bits
   pub usage : from_le_bytes w32 (take 4 (drop 20 head)) ≡ a.policy.usage.0
-  pub alg : from_le_bytes w32 (take 4 (drop 24 head)) ≡ a.policy.alg
+  pub alg : from_le_bytes w32 (take 4 (drop 24 head)) ≡ a.policy.alg.0
+  pub alg2 : from_le_bytes w32 (take 4 (drop 28 head)) ≡ a.policy.alg2.0
 
 numbers : (a : Attributes) (key : List ℕ) → IsKept a key → Numbers a (take 36 (spelling a key))
 numbers a key kept = record {
-  key_type = from_le_bytes-to_le_bytes_2 a.key_type.0 kept.type_fits;
+  key_type = from_le_bytes-to_le_bytes_2 a.key_type.0 kept.fits.key_type;
   bits = from_le_bytes-to_le_bytes_2 a.bits (bits_fit a key kept);
-  usage = from_le_bytes-to_le_bytes_4 a.policy.usage.0 kept.usage_fits;
-  alg = from_le_bytes-to_le_bytes_4 a.policy.alg kept.alg_fits;
+  usage = from_le_bytes-to_le_bytes_4 a.policy.usage.0 kept.fits.usage;
+  alg = from_le_bytes-to_le_bytes_4 a.policy.alg.0 kept.fits.alg;
+  alg2 = from_le_bytes-to_le_bytes_4 a.policy.alg2.0 kept.fits.alg2;
 }
   where
     bits_fit : (a : Attributes) (key : List ℕ) → IsKept a key → a.bits < 2 ^ 16
@@ -183,7 +183,7 @@ of_one_key a b key other body h k =
     let m : Numbers a (take 36 (drop 15 body)) = subst (λ (l : List ℕ). Numbers a l) (sym p.head) (numbers a key h.is_key.kept) in
     let n : Numbers b (take 36 (drop 15 body)) = subst (λ (l : List ℕ). Numbers b l) (sym q.head) (numbers b other k.is_key.kept) in
     let size : length key ≡ length other = sym p.size ∙ q.size in (
-      same_attributes a b (h.is_key.kept.lifetime ∙ sym k.is_key.kept.lifetime) (sym p.id ∙ q.id) (sym m.key_type ∙ n.key_type) (sym m.bits ∙ n.bits) (sym m.usage ∙ n.usage) (sym m.alg ∙ n.alg),
+      same_attributes a b (h.is_key.kept.lifetime ∙ sym k.is_key.kept.lifetime) (sym p.id ∙ q.id) (sym m.key_type ∙ n.key_type) (sym m.bits ∙ n.bits) (sym m.usage ∙ n.usage) (sym m.alg ∙ n.alg) (sym m.alg2 ∙ n.alg2),
       sym p.key_is ∙ (ap (λ (j : ℕ). take j (drop 51 body)) size ∙ q.key_is),
     )
 

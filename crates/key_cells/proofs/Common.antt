@@ -9,7 +9,7 @@ unfoldable pub use Rattle.key_cells.specs.Body.{body_of}
 pub use Rattle.key_cells.specs.Causes.{IsOpenFaultOf, IsDisk, IsRefusal}
 pub use Rattle.key_cells.specs.Contents.{Absent, cell_state, Content, content_at, creation_of_state, Doubtful, Fits, FitsCell, FitsEither, has_id, HasNoKey, HasZeros, is_open, IsFirstWithoutKey, IsSure, KeepsContents, Moves, Present, settled, settled_content, settled_state, settled_states, Shows, Sound, SoundBy, StandsForContents, StaysFree, StaysFreeBut}
 pub use Rattle.key_cells.specs.History.{AddsEntry, AddsEntryOf, AddsFailedCreation, CellEntry, Change, Created, CreationFailed, Destroyed, DestructionFailed, NotReached, Nothing, StandsForHistory, contents_after, changed, entry_done}
-pub use Rattle.key_cells.specs.Image.{HasNoOpenCell, IsDamaged, IsFirstDamaged, IsOpen, IsStoreFile, Opens, SparesOpen, SparesStore}
+pub use Rattle.key_cells.specs.Image.{HasNoOpenCell, IsDamaged, IsFirstDamaged, IsOpen, IsStoreFile, Opens, SparesStore}
 unfoldable pub use Rattle.key_cells.specs.Image.{identifier_in}
 pub use Rattle.key_cells.specs.Layout.{body, cells, closed, gate, opened_gate, part, place}
 unfoldable pub use Rattle.key_cells.specs.Layout.{header, zeros}

@@ -1,5 +1,5 @@
 -- How the parts of an opening follow one another.
-use Rattle.key_cells.proofs.Common.{[], Absent, ap, arith, body, Bool, Calm, cell_state, cells, CellState, Clearing, closed, cond, Content, content_of, contents_of, count_by, creation_of_state, Disk, drop-replicate, Elapses, false, Finds, found_in, Free, gate, get_or, get_or-map, get_or-replicate, has_id, HasNoOpenCell, HasOneEach, HoldsSinceSync, IfSome, inl, inr, is_open, is_opened, is_some, IsBlankSinceSync, IsDisk, IsFoundIn, IsImageDirectory, IsNamed, IsNumbered, IsOpened, IsOpenFaultOf, IsOpeningRefused, IsRefusal, IsStoreFile, LeavesWhatIsRead, length, length-map, List, map, nil_from_length, None, NoNewImage, NotAStore, Open, opened_gate, Option, place, Present, Reads, ReadsBelow, refl, replicate, settled_state, settled_states, Shut, Some, SoundBy, Spares, SparesOpen, SparesSinceSync, SparesStore, StandsForContents, StillTells, subst, sum_by-cons, sym, take, take-map, true, Unsure, Within, within_both, within_none, within_one, WithinSpares, WritesItsOwn, zeros, ℕ, ⊎_elim, ◌+◌, ◌-◌, ◌<◌, ◌∙◌, ◌∷◌, ◌≡◌, ◌≢◌, ◌≤◌, ◌⊎◌}
+use Rattle.key_cells.proofs.Common.{[], Absent, ap, arith, body, Bool, Calm, cell_state, cells, CellState, Clearing, closed, cond, Content, content_of, contents_of, count_by, creation_of_state, Disk, drop-replicate, Elapses, false, Finds, found_in, Free, gate, get_or, get_or-map, get_or-replicate, has_id, HasNoOpenCell, HasOneEach, HoldsSinceSync, IfSome, inl, inr, is_open, is_opened, is_some, IsBlankSinceSync, IsDisk, IsFoundIn, IsImageDirectory, IsNamed, IsNumbered, IsOpen, IsOpened, IsOpenFaultOf, IsOpeningRefused, IsRefusal, IsStoreFile, LeavesWhatIsRead, length, length-map, List, map, nil_from_length, None, NoNewImage, NotAStore, Open, opened_gate, Option, place, Present, Reads, ReadsBelow, refl, replicate, settled_state, settled_states, Shut, Some, SoundBy, Spares, SparesSinceSync, SparesStore, StandsForContents, StillTells, subst, sum_by-cons, sym, take, take-map, true, Unsure, Within, within_both, within_none, within_one, WithinSpares, WritesItsOwn, zeros, ℕ, ⊎_elim, ◌+◌, ◌-◌, ◌<◌, ◌∙◌, ◌∷◌, ◌≡◌, ◌≢◌, ◌≤◌, ◌⊎◌}
 use Rattle.disk_face.specs.declared.Disk as Disk
 use Rattle.std.proofs.Common.{ne_eqb, suc, zero}
 unfoldable use Rattle.key_cells.specs.Layout.{blank_store}
@@ -148,7 +148,8 @@ reads_sound states image store reads = record {
 }
 
 -- what is spared is each open cell, byte for byte
-pub spares_open : (states : List CellState) (image other : List ℕ) → SoundBy Spares states (contents_of image) other → SparesOpen image other
+pub spares_open : (states : List CellState) (image other : List ℕ) → SoundBy Spares states (contents_of image) other
+    → (cell : ℕ) → cell < cells → IsOpen cell image → IsOpen cell other × (body cell other ≡ body cell image)
 spares_open states image other s cell lt is =
     let there : get_or (contents_of image) cell Absent ≡ Present (body cell image) = content_there cell image lt ∙ ap (λ (g : List ℕ). content_of g (body cell image)) is in
     by (cell_state states cell) (gate cell other) (body cell other) (subst (λ (c : Content). Spares (cell_state states cell) c (gate cell other) (body cell other)) there (s.each cell lt))

@@ -18,13 +18,10 @@ IsOpen cell image = gate cell image ≡ opened_gate
 unfoldable pub identifier_in : List ℕ → ℕ
 identifier_in body = from_le_bytes w32 (take 4 (drop 3 body))
 
--- an earlier open cell has the identifier of this one
-abbrev pub IsTwice : List ℕ → ℕ → Type 0
-IsTwice image cell = (earlier : ℕ) × (earlier < cell) × IsOpen earlier image × (identifier_in (body earlier image) ≡ identifier_in (body cell image))
-
 -- an open cell is damaged where it holds no key, or the identifier of an earlier open cell
 abbrev pub IsDamaged : List ℕ → ℕ → Type 0
-IsDamaged image cell = IsOpen cell image × (HoldsNoKey (body cell image) ⊎ IsTwice image cell)
+IsDamaged image cell = IsOpen cell image × (HoldsNoKey (body cell image)
+    ⊎ ((earlier : ℕ) × (earlier < cell) × IsOpen earlier image × (identifier_in (body earlier image) ≡ identifier_in (body cell image))))
 
 -- an image that can be opened
 pub record Opens (image : List ℕ) : Type 0 where
@@ -50,14 +47,10 @@ HasKey a key image = (cell : ℕ) × (cell < cells) × IsOpen cell image × Hold
 abbrev pub HasNoOpenCell : List ℕ → Type 0
 HasNoOpenCell image = (cell : ℕ) → cell < cells → IsOpen cell image → ⊥
 
--- another image has each open cell of this one, byte for byte
-abbrev pub SparesOpen : List ℕ → List ℕ → Type 0
-SparesOpen image other = (cell : ℕ) → cell < cells → IsOpen cell image → IsOpen cell other × (body cell other ≡ body cell image)
-
 -- Another image is a store with each open cell of this one, byte for byte. A cell that 0 closes stays closed by it, and
 -- one that is all zeros stays so.
 pub record SparesStore (image other : List ℕ) : Type 0 where
   pub store : IsStoreFile other
-  pub open_cells : SparesOpen image other
+  pub open_cells : (cell : ℕ) → cell < cells → IsOpen cell image → IsOpen cell other × (body cell other ≡ body cell image)
   pub shut : (cell : ℕ) → cell < cells → gate cell image ≡ closed → gate cell other ≡ closed
   pub zeros : (cell : ℕ) → cell < cells → HasZeros cell image → HasZeros cell other

@@ -1,6 +1,7 @@
 -- The words of this crate that others cite, a line or two for each file that says them.
 pub use Rattle.key_cells.specs.Layout.{body, closed, gate, opened_gate, place}
 unfoldable pub use Rattle.key_cells.specs.Layout.{zeros}
+pub use Rattle.key_record.specs.Record.{FitsRecord}
 pub use Rattle.key_cells.specs.Body.{HoldsId, HoldsKey, IsKeyOf, IsPersistent}
 unfoldable pub use Rattle.key_cells.specs.Body.{body_of}
 pub use Rattle.key_cells.specs.Contents.{Absent, Content, CreationFailed, Doubtful, Fits, FitsCell, HasNoKey, HasZeros, IsFirstWithKey, IsFirstWithoutKey, IsFull, IsSure, Moves, MovesEither, Present, Shows, Sound, StandsForContents, cell_state, content_at, creation_of_state, has_id, is_open, settled, settled_content, settled_state, settled_states}

@@ -15,7 +15,7 @@ fn differs(stated: u16, own: u16) -> bool
 }
 
 /// The attributes with which a creation is asked for the copy of a key, or the first refusal that the source's and the stated
-/// ones decide: the source's type and bits, the stated lifetime and identifier, and the policy that both permit.
+/// ones decide: the source's type and bits, the stated lifetime and identifier, and the meet of the policies.
 pub fn copied_attributes(source: &Attributes, stated: &Attributes) -> Result<Attributes, Status>
     ensures { (store : Store) (caller : ℕ) (key : Key) → key.attributes ≡ source.now →
         recorded_copy store caller (Some key) stated.now ≡ recorded_after store caller (length key.bytes) result }

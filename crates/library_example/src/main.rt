@@ -24,7 +24,7 @@ use std::sync::Wait;
 /// How much the calls of one caller may count together.
 const BUDGET: u64 = 3;
 
-const CMAC: u32 = 0x03c0_0200;
+const CMAC: Alg = Alg(0x03c0_0200);
 
 /// Key and MAC of the empty message are those of SP 800-38B, section D.1, example 1.
 const KEY: [u8; 16] = [
@@ -40,6 +40,7 @@ const ROOT: Attributes = Attributes {
     policy: Policy {
         usage: Usage(0x400),
         alg: CMAC,
+        ..Policy::NOTHING
     },
 };
 
@@ -57,7 +58,7 @@ fn share_key<D: Disk, A: Devices, C: Admission, R: Wait>(
     let mut keeper = service.client(rt, callers.pop().unwrap());
     let mut user = service.client(rt, callers.pop().unwrap());
     let kept = keeper.import_key(&ROOT, &KEY);
-    let computed = user.mac_compute(ROOT.id, Alg(CMAC), b"", mac);
+    let computed = user.mac_compute(ROOT.id, CMAC, b"", mac);
     callers.push_reserved(user.into_caller());
     callers.push_reserved(keeper.into_caller());
     kept.result.and(computed.result)

@@ -9,7 +9,7 @@ use Rattle.policy_rules.specs.declared.narrowing.Label.{Label}
 use Rattle.policy_rules.specs.declared.narrowing.Label.TheVariants.{NoExport, NoCopy, NoEcb, Aes256}
 use Rattle.policy_rules.specs.declared.narrowing.Verdict.{Verdict}
 use Rattle.policy_rules.specs.declared.narrowing.Verdict.TheVariants.{Keep, Refuse}
-use Rattle.policy_rules.specs.Narrow.{narrowed, after_verdict, after_rules}
+use Rattle.policy_rules.specs.Narrow.{names_ecb, narrowed, after_verdict, after_rules}
 use Rattle.store_model.proofs.Recorded.{then_ok}
 use Rattle.line_generator.proofs.Maps.{len_inserted}
 use Rattle.line_generator.proofs.Alike.{AlikeStores, plain, plain_key, some_of, set_both}
@@ -30,7 +30,7 @@ kept_or_refused false a = refl
 narrowed_keeps : (label : Label) (a : Attributes) → VerdictKeeps a (narrowed label a)
 narrowed_keeps NoExport a = refl
 narrowed_keeps NoCopy a = refl
-narrowed_keeps NoEcb a = kept_or_refused (a.policy.alg == 0x04404400) a
+narrowed_keeps NoEcb a = kept_or_refused (names_ecb a.policy) a
 narrowed_keeps Aes256 a = kept_or_refused (a.key_type.0 == 0x2400 && not (a.bits == 256)) a
 
 later : (a kept : Attributes) (r : Result Attributes Status) → SameLifetime a kept → IfOk r (SameLifetime kept) → IfOk r (SameLifetime a)

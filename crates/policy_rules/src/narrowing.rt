@@ -1,7 +1,8 @@
 // Admission rules.
 ghost use Rattle.std.specs.Prelude.{◌≡◌};
-ghost use Rattle.policy_rules.specs.Narrow.{KeepsWithin, narrowed, only_usage};
+ghost use Rattle.policy_rules.specs.Narrow.{KeepsWithin, names_ecb, narrowed, only_usage};
 
+use alg_encoding::Alg;
 use key_attributes::{Attributes, KeyType, Policy, Usage};
 
 /// What an admission rule does with a new key.
@@ -11,7 +12,7 @@ pub enum Label {
     NoExport,
     /// Takes the flag COPY away.
     NoCopy,
-    /// Refuses a key for ECB.
+    /// Refuses a key one of whose numbers is ECB's.
     NoEcb,
     /// Refuses an AES key of other than 256 bits.
     Aes256,
@@ -24,7 +25,7 @@ pub enum Verdict {
     Refuse,
 }
 
-const ECB_NO_PADDING: u32 = 0x0440_4400;
+const ECB_NO_PADDING: Alg = Alg(0x0440_4400);
 
 fn with_usage(attributes: &Attributes, flags: u32) -> Attributes
     ensures { result ≡ only_usage attributes.now flags }
@@ -33,10 +34,17 @@ fn with_usage(attributes: &Attributes, flags: u32) -> Attributes
     Attributes {
         policy: Policy {
             usage: Usage(policy.usage.0 & flags),
-            alg: policy.alg,
+            ..policy
         },
         ..*attributes
     }
+}
+
+// Whether one of a policy's numbers is that of ECB without padding.
+fn names_ecb(policy: &Policy) -> bool
+    ensures { result ≡ names_ecb policy.now }
+{
+    policy.alg == ECB_NO_PADDING || policy.alg2 == ECB_NO_PADDING
 }
 
 /// What the rule with this label makes of a new key's attributes.
@@ -48,7 +56,7 @@ pub fn narrow(label: Label, attributes: &Attributes) -> Verdict
         Label::NoExport => Verdict::Keep(with_usage(attributes, !Usage::EXPORT.0)),
         Label::NoCopy => Verdict::Keep(with_usage(attributes, !Usage::COPY.0)),
         Label::NoEcb => {
-            if attributes.policy.alg == ECB_NO_PADDING {
+            if names_ecb(&attributes.policy) {
                 Verdict::Refuse
             } else {
                 Verdict::Keep(*attributes)

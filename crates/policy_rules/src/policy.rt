@@ -1,9 +1,9 @@
 // What a policy permits, and the meet of two.
-ghost use Rattle.std.specs.Prelude.{◌≡◌, ◌↔◌, IsTrue, ℕ};
+ghost use Rattle.std.specs.Prelude.{◌≡◌, ◌↔◌, IfSome, IsTrue, ℕ};
 ghost use Rattle.std.specs.Option.{option_map};
 ghost use Rattle.alg_encoding.specs.Encoding.{IsConcrete, base_of, minimum_of};
 ghost use Rattle.key_attributes.specs.declared.Policy.{Policy};
-ghost use Rattle.policy_rules.specs.Policy.{IsWithin, MayUseBoth, PermitsBoth, longer_of, may_use, meet_algorithm, meet_of, permits_algorithm, reaches};
+ghost use Rattle.policy_rules.specs.Policy.{HasOneAlgorithm, IsWithin, MayUseBoth, PermitsBoth, allows, longer_of, may_use, meet_algorithm, meet_of, permits_algorithm, reaches};
 
 use alg_encoding::Alg;
 use key_attributes::{Policy, Usage};
@@ -18,23 +18,30 @@ fn reaches(minimum: Option<u8>, length: Option<u8>) -> bool
 }
 
 #[tactic(auto, unfolding(crate::specs::Policy::permits_algorithm))]
-/// Whether a policy's algorithm permits a concrete one.
-fn permits_algorithm(policy: Alg, alg: Alg) -> bool
-    ensures { result ≡ permits_algorithm policy.0 alg.0 }
+/// Whether a number in a policy permits a concrete algorithm.
+fn permits_algorithm(number: Alg, alg: Alg) -> bool
+    ensures { result ≡ permits_algorithm number.0 alg.0 }
 {
-    if policy.number() == 0 {
+    if number.number() == 0 {
         return false;
     }
-    policy.is_same(alg)
-        || (policy.base() == alg.base() && reaches(policy.minimum(), alg.tag_length()))
+    number.is_same(alg)
+        || (number.base() == alg.base() && reaches(number.minimum(), alg.tag_length()))
 }
 
-/// Whether a policy permits each flag of a usage and a concrete algorithm.
+/// Whether a policy allows a concrete algorithm.
+fn allows(policy: &Policy, alg: Alg) -> bool
+    ensures { result ≡ allows policy.now alg.0 }
+{
+    permits_algorithm(policy.alg, alg) || permits_algorithm(policy.alg2, alg)
+}
+
+/// Whether a policy has each flag of a usage and allows a concrete algorithm.
 pub fn permits(policy: &Policy, usage: Usage, alg: Alg) -> bool
     requires { IsConcrete alg.0 }
     ensures { result ≡ may_use policy.now usage.0 alg.0 }
 {
-    policy.usage.0 & usage.0 == usage.0 && permits_algorithm(Alg::of(policy.alg), alg)
+    policy.usage.0 & usage.0 == usage.0 && allows(policy, alg)
 }
 
 /// Of two algorithms of one base with a minimum, the one with the longer.
@@ -48,7 +55,7 @@ fn longer(a: Alg, b: Alg) -> Option<Alg>
 }
 
 #[tactic(auto, unfolding(crate::specs::Policy::meet_algorithm))]
-/// The algorithm that permits what both permit.
+/// The number that permits what both permit.
 fn meet_algorithm(a: Alg, b: Alg) -> Option<Alg>
     ensures { option_map (λ alg. alg.0) result ≡ meet_algorithm a.0 b.0 }
 {
@@ -71,18 +78,26 @@ fn meet_algorithm(a: Alg, b: Alg) -> Option<Alg>
     }
 }
 
-/// The policy of a copy, by its source's policy and the stated one: the flags of both, and the algorithm that permits what
-/// both permit. `None` where the algorithms have no meet; then no concrete algorithm is permitted by both. Where both
-/// state the same algorithm, the source's number stays.
+// The flags of both policies, and place by place the number that permits what both permit.
+fn met(a: &Policy, b: &Policy) -> Option<Policy>
+    ensures { result ≡ meet_of a.now b.now }
+{
+    Some(Policy {
+        usage: Usage(a.usage.0 & b.usage.0),
+        alg: meet_algorithm(a.alg, b.alg)?,
+        alg2: meet_algorithm(a.alg2, b.alg2)?,
+    })
+}
+
+/// The policy of a copy, by its source's policy and the stated one: the flags of both, and in each of the two places the
+/// number that permits what both numbers there permit, so that a second number which isn't stated is lost. `None` where a
+/// place has no such number. What the meet may be used for, both may. Where neither policy has a second number, the meet may
+/// be used for all that both may, and where there is none, no concrete algorithm is allowed by both. Where both state the
+/// same algorithm in a place, the source's number stays there.
 pub fn meet(a: &Policy, b: &Policy) -> Option<Policy>
     ensures value { result ≡ meet_of a.now b.now }
-    ensures both { MayUseBoth a.now b.now result }
+    ensures within { IfSome result (λ met. IsWithin met a.now × IsWithin met b.now) }
+    ensures both { HasOneAlgorithm a.now → HasOneAlgorithm b.now → MayUseBoth a.now b.now result }
 {
-    match meet_algorithm(Alg::of(a.alg), Alg::of(b.alg)) {
-        Some(alg) => Some(Policy {
-            usage: Usage(a.usage.0 & b.usage.0),
-            alg: alg.number(),
-        }),
-        None => None,
-    }
+    met(a, b)
 }

@@ -1,12 +1,12 @@
 -- What a command runs, and what is known of its end.
-use Rattle.std.specs.Prelude.{ℕ, ◌≡◌, ◌⊎◌, List, [], replicate, length, IfSome, IsOk, Ok, Option, Some, None}
+use Rattle.std.specs.Prelude.{ℕ, ◌≡◌, ◌⊎◌, List, [], flat_map, replicate, length, IfSome, IsOk, Ok, Option, Some, None}
 use Rattle.std.specs.Io.KnownBytes.{Appends}
 use Rattle.psa_status.specs.Causes.{Rose}
 use Rattle.policy_rules.specs.declared.narrowing.Label.{Label}
 use Rattle.admission.specs.Apply.{picked}
 use Rattle.key_cells.specs.Prelude.{Opens}
 use Rattle.script_lang.specs.declared.script.ScriptLine.{ScriptLine}
-use Rattle.script_lang.specs.Prelude.{ReplyLine, script_of, text_of}
+use Rattle.script_lang.specs.Prelude.{ReplyLine, reply_text, script_of}
 use Rattle.line_generator.specs.Generator.{generator_lines}
 use Rattle.line_generator.specs.Summary.{summary_of}
 use Rattle.command_words.specs.declared.command.Command.{Command}
@@ -34,7 +34,7 @@ options_of (Generate count) = record { workers = 1; seed = replicate 32 0; label
 
 -- what is written of the replies
 abbrev pub text_by : Command → List ReplyLine → List ℕ
-text_by (Run options) replies = text_of replies
+text_by (Run options) replies = flat_map reply_text replies
 text_by (Generate count) replies = summary_of replies
 
 module _ {D A C : Type 0} (disks : Disk.Ghosts D) (elements : Devices.Ghosts A) (admits : Admission.Ghosts C)

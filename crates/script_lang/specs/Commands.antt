@@ -30,9 +30,9 @@ use Rattle.script_lang.specs.declared.script.ScriptCall.{ScriptCall}
 
 unfoldable pub rows : List Shape
 rows =
-    row (codes "import") (command.Key key.Import) (kind.Name ∷ []) (field.Type ∷ field.Usage ∷ field.Alg ∷ field.Data ∷ []) (field.Life ∷ field.Id ∷ field.Bits ∷ [])
-    ∷ row (codes "generate") (command.Key key.Generate) (kind.Name ∷ []) (field.Type ∷ field.Bits ∷ field.Usage ∷ field.Alg ∷ []) (field.Life ∷ field.Id ∷ [])
-    ∷ row (codes "copy") (command.Key key.Copy) (kind.Name ∷ kind.Key ∷ []) (field.Usage ∷ field.Alg ∷ []) (field.Type ∷ field.Bits ∷ field.Life ∷ field.Id ∷ [])
+    row (codes "import") (command.Key key.Import) (kind.Name ∷ []) (field.Type ∷ field.Usage ∷ field.Alg ∷ field.Data ∷ []) (field.Life ∷ field.Id ∷ field.Bits ∷ field.Alg2 ∷ [])
+    ∷ row (codes "generate") (command.Key key.Generate) (kind.Name ∷ []) (field.Type ∷ field.Bits ∷ field.Usage ∷ field.Alg ∷ []) (field.Life ∷ field.Id ∷ field.Alg2 ∷ [])
+    ∷ row (codes "copy") (command.Key key.Copy) (kind.Name ∷ kind.Key ∷ []) (field.Usage ∷ field.Alg ∷ []) (field.Type ∷ field.Bits ∷ field.Life ∷ field.Id ∷ field.Alg2 ∷ [])
     ∷ row (codes "destroy") (command.Key key.Destroy) (kind.Key ∷ []) [] []
     ∷ row (codes "purge") (command.Key key.Purge) (kind.Key ∷ []) [] []
     ∷ row (codes "attributes") (command.Key key.Attributes) (kind.Key ∷ []) [] []
@@ -76,7 +76,7 @@ rows =
     ∷ row (codes "kdf_input_integer") (command.Derivation derivation.InputInteger) (kind.Handle ∷ []) (field.Step ∷ field.Value ∷ []) []
     ∷ row (codes "kdf_input_key") (command.Derivation derivation.InputKey) (kind.Handle ∷ kind.Key ∷ []) (field.Step ∷ []) []
     ∷ row (codes "kdf_output_bytes") (command.Derivation derivation.OutputBytes) (kind.Handle ∷ []) (field.Length ∷ []) []
-    ∷ row (codes "kdf_output_key") (command.Derivation derivation.OutputKey) (kind.Handle ∷ kind.Name ∷ []) (field.Type ∷ field.Bits ∷ field.Usage ∷ field.Alg ∷ []) (field.Life ∷ field.Id ∷ [])
+    ∷ row (codes "kdf_output_key") (command.Derivation derivation.OutputKey) (kind.Handle ∷ kind.Name ∷ []) (field.Type ∷ field.Bits ∷ field.Usage ∷ field.Alg ∷ []) (field.Life ∷ field.Id ∷ field.Alg2 ∷ [])
     ∷ row (codes "kdf_verify_bytes") (command.Derivation derivation.VerifyBytes) (kind.Handle ∷ []) (field.Data ∷ []) []
     ∷ row (codes "abort") command.Abort (kind.Handle ∷ []) [] []
     ∷ []

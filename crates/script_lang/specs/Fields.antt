@@ -46,6 +46,7 @@ field_row field.Capacity = (16, codes "capacity", LongForm)
 field_row field.Value = (17, codes "value", LongForm)
 field_row field.Length = (18, codes "len", ShortForm 10 20 1 16385)
 field_row field.Step = (19, codes "step", ShortForm 16 4 0 (2 ^ 16))
+field_row field.Alg2 = (20, codes "alg2", WordForm)
 
 abbrev pub field_number : Field → ℕ
 field_number f = (field_row f).0
@@ -60,7 +61,7 @@ abbrev pub all_fields : List Field
 all_fields =
     field.Type ∷ field.Usage ∷ field.Alg ∷ field.Data ∷ field.Life ∷ field.Id ∷ field.Bits ∷ field.Room ∷ field.Hash ∷ field.Mac
     ∷ field.Nonce ∷ field.Ad ∷ field.Iv ∷ field.Tag ∷ field.AdLength ∷ field.PlainLength ∷ field.Capacity ∷ field.Value ∷ field.Length
-    ∷ field.Step ∷ []
+    ∷ field.Step ∷ field.Alg2 ∷ []
 
 abbrev pub field_named : List ℕ → Option Field
 field_named name = find (λ f. bytes_eq (field_name f) name) all_fields
@@ -155,5 +156,5 @@ attributes_at fs = record {
   id = record { 0 = word_at field.Id fs };
   key_type = record { 0 = short_at 0 field.Type fs };
   bits = short_at 0 field.Bits fs;
-  policy = record { usage = record { 0 = word_at field.Usage fs }; alg = alg_at fs };
+  policy = record { usage = record { 0 = word_at field.Usage fs }; alg = record { 0 = alg_at fs }; alg2 = record { 0 = word_at field.Alg2 fs } };
 }

@@ -6,4 +6,4 @@ pub use Rattle.script_lang.specs.Lines.{IsOfSession, Read, ScriptFails, or_bad_l
 unfoldable pub use Rattle.script_lang.specs.Lines.{lines_at, script_of, words_at}
 pub use Rattle.script_lang.specs.Replies.{AreAllKept, AreKept, ReplyLine, bytes_text, is_success, next_line, text_in}
 unfoldable pub use Rattle.script_lang.specs.Replies.{reply_text, unranked_text}
-pub use Rattle.script_lang.specs.PrintedOrder.{AreCalls, Turn, id_given, numbered, printed, replies_to, text_of, turns_from, turns_of}
+pub use Rattle.script_lang.specs.PrintedOrder.{AreCalls, Turn, id_given, numbered, printed, replies_to, turns_from, turns_of}

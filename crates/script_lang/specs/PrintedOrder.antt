@@ -1,10 +1,10 @@
 -- What a script's calls answer, and what is printed of it.
-use Rattle.std.specs.Prelude.{ℕ, zero, suc, ◌≡◌, ◌+◌, ◌==◌, List, [], ◌∷◌, ◌++◌, filter, flat_map, slice_get, Option, IfSome, option_map}
+use Rattle.std.specs.Prelude.{ℕ, zero, suc, ◌≡◌, ◌+◌, ◌==◌, List, [], ◌∷◌, ◌++◌, filter, slice_get, Option, IfSome, option_map}
 use Rattle.store_model.specs.Call as model
 use Rattle.store_model.specs.Prelude.{Output, Reply, output_bytes, Service, Entry, outcome_of, reply_at}
 use Rattle.script_lang.specs.declared.script.ScriptLine.{ScriptLine}
 use Rattle.script_lang.specs.Commands.{request_of}
-use Rattle.script_lang.specs.Replies.{ReplyLine, reply_text}
+use Rattle.script_lang.specs.Replies.{ReplyLine}
 
 -- the identifier that a call gave, or 0
 abbrev pub id_given : Output → ℕ
@@ -60,6 +60,3 @@ numbered number (t ∷ ts) = printed number t ∷ numbered (number + 1) ts
 abbrev pub replies_to : ℕ → (ℕ → List Turn) → List ReplyLine
 replies_to zero own = []
 replies_to (suc n) own = replies_to n own ++ numbered 1 (own (suc n))
-
-abbrev pub text_of : List ReplyLine → List ℕ
-text_of replies = flat_map reply_text replies

@@ -6,8 +6,8 @@ ghost use Rattle.script_lang.specs.Shapes.{shape};
 ghost use Rattle.script_lang.specs.Commands.{row_named, rows};
 
 use crate::fields::Field::{
-    Ad, AdLength, Alg, Bits, Capacity, Data, Hash, Id, Iv, Length, Life, Mac, Nonce, PlainLength,
-    Room, Step, Tag, Type, Usage, Value,
+    Ad, AdLength, Alg, Alg2, Bits, Capacity, Data, Hash, Id, Iv, Length, Life, Mac, Nonce,
+    PlainLength, Room, Step, Tag, Type, Usage, Value,
 };
 use crate::fields::{Field, is_text};
 use crate::operation_commands::{
@@ -60,9 +60,9 @@ macro_rules! rows {
 }
 
 const ROWS: &[Row] = rows![
-    b"import", ScriptCommand::Key(KeyCommand::Import), [Name], [Type, Usage, Alg, Data], [Life, Id, Bits];
-    b"generate", ScriptCommand::Key(KeyCommand::Generate), [Name], [Type, Bits, Usage, Alg], [Life, Id];
-    b"copy", ScriptCommand::Key(KeyCommand::Copy), [Name, Key], [Usage, Alg], [Type, Bits, Life, Id];
+    b"import", ScriptCommand::Key(KeyCommand::Import), [Name], [Type, Usage, Alg, Data], [Life, Id, Bits, Alg2];
+    b"generate", ScriptCommand::Key(KeyCommand::Generate), [Name], [Type, Bits, Usage, Alg], [Life, Id, Alg2];
+    b"copy", ScriptCommand::Key(KeyCommand::Copy), [Name, Key], [Usage, Alg], [Type, Bits, Life, Id, Alg2];
     b"destroy", ScriptCommand::Key(KeyCommand::Destroy), [Key], [], [];
     b"purge", ScriptCommand::Key(KeyCommand::Purge), [Key], [], [];
     b"attributes", ScriptCommand::Key(KeyCommand::Attributes), [Key], [], [];
@@ -106,7 +106,7 @@ const ROWS: &[Row] = rows![
     b"kdf_input_integer", ScriptCommand::Derivation(DerivationCommand::InputInteger), [Handle], [Step, Value], [];
     b"kdf_input_key", ScriptCommand::Derivation(DerivationCommand::InputKey), [Handle, Key], [Step], [];
     b"kdf_output_bytes", ScriptCommand::Derivation(DerivationCommand::OutputBytes), [Handle], [Length], [];
-    b"kdf_output_key", ScriptCommand::Derivation(DerivationCommand::OutputKey), [Handle, Name], [Type, Bits, Usage, Alg], [Life, Id];
+    b"kdf_output_key", ScriptCommand::Derivation(DerivationCommand::OutputKey), [Handle, Name], [Type, Bits, Usage, Alg], [Life, Id, Alg2];
     b"kdf_verify_bytes", ScriptCommand::Derivation(DerivationCommand::VerifyBytes), [Handle], [Data], [];
     b"abort", ScriptCommand::Abort, [Handle], [], [];
 ];

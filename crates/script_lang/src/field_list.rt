@@ -111,7 +111,8 @@ impl Fields {
             bits: self.short(Field::Bits, 0),
             policy: Policy {
                 usage: Usage(self.word(Field::Usage)),
-                alg: self.word(Field::Alg),
+                alg: self.alg(),
+                alg2: Alg(self.word(Field::Alg2)),
             },
         }
     }

@@ -39,6 +39,7 @@ pub enum Field {
     Value,
     Length,
     Step,
+    Alg2,
 }
 
 /// What a field says.
@@ -80,6 +81,7 @@ const FIELDS: &[Field] = &[
     Field::Value,
     Field::Length,
     Field::Step,
+    Field::Alg2,
 ];
 
 /// All fields.
@@ -129,6 +131,7 @@ impl Field {
             Field::Value => b"value",
             Field::Length => b"len",
             Field::Step => b"step",
+            Field::Alg2 => b"alg2",
         }
     }
 }
@@ -220,7 +223,7 @@ fn value_of(alloc: Global, field: Field, text: &[u8]) -> Result<FieldValue, Line
         Field::Bits => short(10, 20, 0, 0xffff, text),
         Field::Room => short(10, 20, 0, ROOM as u64, text),
         Field::Length => short(10, 20, 1, LENGTH_LIMIT, text),
-        Field::Usage | Field::Alg | Field::Life | Field::Id => word(text),
+        Field::Usage | Field::Alg | Field::Alg2 | Field::Life | Field::Id => word(text),
         Field::AdLength | Field::PlainLength | Field::Capacity | Field::Value => long(text),
         _ => decoded(alloc, text),
     }

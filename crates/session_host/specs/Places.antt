@@ -10,11 +10,7 @@ abbrev pub of_calls : {X : Type 0} → (at : (rank : ℕ) → Entry → X) → (
 of_calls at session rank [] = []
 of_calls at session rank (e ∷ es) = cond (e.caller == session) (at rank e ∷ of_calls at session (rank + 1) es) (of_calls at session (rank + 1) es)
 
--- the calls with their ranks, which are their places
-abbrev pub ranked_calls : (session : ℕ) → List Entry → List (ℕ × Entry)
-ranked_calls session h = of_calls (λ rank e. (rank, e)) session 0 h
-
--- a turn's
+-- a turn's rank and entry
 abbrev pub ranked_call : Turn → ℕ × Entry
 ranked_call t = (t.rank, t.entry)
 

@@ -13,7 +13,7 @@ use Rattle.script_lang.specs.declared.script.ScriptLine.{ScriptLine}
 use Rattle.script_lang.specs.Prelude.{AreCalls, AreKept, ReplyLine, lines_of, numbered, Turn, id_given}
 use Rattle.script_lang.specs.declared.replies.Replies.{Replies}
 use Rattle.session_host.specs.declared.session.Session.{Session}
-use Rattle.session_host.specs.Places.{ranked_call, ranked_calls}
+use Rattle.session_host.specs.Places.{of_calls, ranked_call}
 use Rattle.session_host.specs.Replying.{ArePrintedAlike}
 
 -- the calls of these lines are among a history's, in this order
@@ -49,7 +49,7 @@ module _ {D A C : Type 0} (w : World D A C) where
   -- identifier that the session's own reply before gave.
   pub record AreTurnsIn (h : List Entry) (session : ℕ) (lines : List ScriptLine) (turns : List Turn) : Type 0 where
     pub calls : AreCalls [] lines turns
-    pub placed : map ranked_call turns ≡ ranked_calls session h
+    pub placed : map ranked_call turns ≡ of_calls (λ rank e. (rank, e)) session 0 h
     pub each : All (IsTurnIn h) turns
 
   -- A caller made a call. Its entry stands at the rank in what the caller has then seen, and this is its reply.

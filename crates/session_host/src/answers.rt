@@ -37,7 +37,11 @@ fn attribute_bytes(alloc: Global, attributes: &Attributes) -> Result<Vec<u8>, Al
     bytes.extend_from_slice(&attributes.key_type.0.to_be_bytes())?;
     bytes.extend_from_slice(&attributes.bits.to_be_bytes())?;
     bytes.extend_from_slice(&attributes.policy.usage.0.to_be_bytes())?;
-    bytes.extend_from_slice(&attributes.policy.alg.to_be_bytes())?;
+    bytes.extend_from_slice(&attributes.policy.alg.0.to_be_bytes())?;
+    if attributes.policy.alg2.0 == 0 {
+        return Ok(bytes);
+    }
+    bytes.extend_from_slice(&attributes.policy.alg2.0.to_be_bytes())?;
     Ok(bytes)
 }
 

@@ -25,7 +25,7 @@ no_attributes = record {
   id = record { 0 = 0 };
   key_type = record { 0 = 0 };
   bits = 0;
-  policy = record { usage = record { 0 = 0 }; alg = 0 };
+  policy = record { usage = record { 0 = 0 }; alg = record { 0 = 0 }; alg2 = record { 0 = 0 } };
 }
 
 -- a slot that is wiped: nobody reads it, its 1,024 bytes are zeros, and so is all else

@@ -6,22 +6,11 @@ ghost use Rattle.slot_states.specs.declared.SlotState.TheVariants.{Empty};
 ghost use Rattle.slot_table.specs.Slots.{is_empty_state, is_full, is_pending, is_idle, is_last};
 ghost use Rattle.slot_table.specs.Rows.{empty_head, no_key, slot_of};
 
-use key_attributes::{Attributes, KeyId, KeyType, Lifetime, Policy, Usage};
+use key_attributes::Attributes;
 use psa_status::Memory;
 use secret_bytes::Secret;
 use slot_states::SlotState;
 use std::alloc::Global;
-
-const NO_ATTRIBUTES: Attributes = Attributes {
-    lifetime: Lifetime(0),
-    id: KeyId(0),
-    key_type: KeyType(0),
-    bits: 0,
-    policy: Policy {
-        usage: Usage(0),
-        alg: 0,
-    },
-};
 
 /// The state of a slot, apart from its key.
 #[derive(Clone, Copy, Drop)]
@@ -97,7 +86,7 @@ impl Stored {
         Ok(Stored {
             readers: 0,
             creation: 0,
-            attributes: NO_ATTRIBUTES,
+            attributes: Attributes::NONE,
             buffer,
             apart: [0; 9],
         })
@@ -120,7 +109,7 @@ impl Stored {
     {
         self.readers = 0;
         self.creation = 0;
-        self.attributes = NO_ATTRIBUTES;
+        self.attributes = Attributes::NONE;
         self.buffer.wipe();
     }
 }

@@ -20,7 +20,7 @@ pub fn one_byte_key(id: u32) -> Attributes
         bits: 8,
         policy: Policy {
             usage: Usage::EXPORT,
-            alg: 0,
+            ..Policy::NOTHING
         },
     }
 }

@@ -20,7 +20,7 @@ fn exportable(id: u32) -> Attributes {
         bits: 0,
         policy: Policy {
             usage: Usage::EXPORT,
-            alg: 0,
+            ..Policy::NOTHING
         },
     }
 }

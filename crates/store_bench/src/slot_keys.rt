@@ -31,7 +31,7 @@ fn import(table: &mut SlotTable, id: u32) -> bool
         bits: 256,
         policy: Policy {
             usage: Usage::EXPORT,
-            alg: 0,
+            ..Policy::NOTHING
         },
     };
     if !table.can_reserve() {

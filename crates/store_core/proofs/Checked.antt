@@ -1,5 +1,5 @@
 -- What the table of creations has decided of a key that is to be made.
-use Rattle.store_core.proofs.Common.{Agrees, and_from, and_parts, ap, arith, attribute_rows, Attributes, bit_and, Bool, cell_state, CellState, checked, cond, count_persistent, creation_of_state, eq-eqb, eqb-true, false, false_from_ne_true, false≢true, filled, first_row, full_within, has_id, has_secure_element, HasNoKey, holds_key, implied_usage, InvalidArgument, is_key_type, is_lifetime, is_opaque, is_open, is_some, is_volatile, IsDirectory, IsFull, IsKeyOf, IsSoundStore, IsStated, key_is_full, key_of_slot, length, List, location, low_id, lt-ltb, map_get, map_get-retain_keys, Model, nat_lt, nat_tests, ne_eqb, NoKey, None, none-some, none_holds, not, not-false, NotSupported, Ok, Open, or_cases, Pairs, permits_size, persistence, ranked, refl, retain_keys, size_rows, Slot, slot_at, Some, stated_id, subst, sym, true, unless, unless-ok, ℕ, ⊎_elim, ◌%◌, ◌&&◌, ◌*◌, ◌/◌, ◌<◌, ◌==◌, ◌^◌, ◌||◌, ◌∙◌, ◌≡◌, ◌≢◌, ◌≤◌}
+use Rattle.store_core.proofs.Common.{Agrees, and_from, and_parts, ap, arith, attribute_rows, Attributes, bit_and, Bool, cell_state, CellState, checked, cond, count_persistent, creation_of_state, eq-eqb, eqb-true, false, false_from_ne_true, false≢true, filled, first_row, FitsRecord, full_within, has_id, has_secure_element, HasNoKey, holds_key, implied_usage, InvalidArgument, is_key_type, is_lifetime, is_opaque, is_open, is_some, is_volatile, IsDirectory, IsFull, IsKeyOf, IsSoundStore, IsStated, key_is_full, key_of_slot, length, List, location, low_id, lt-ltb, map_get, map_get-retain_keys, Model, nat_lt, nat_tests, ne_eqb, NoKey, None, none-some, none_holds, not, not-false, NotSupported, Ok, Open, or_cases, Pairs, permits_size, persistence, ranked, refl, retain_keys, size_rows, Slot, slot_at, Some, stated_id, subst, sym, true, unless, unless-ok, ℕ, ⊎_elim, ◌%◌, ◌&&◌, ◌*◌, ◌/◌, ◌<◌, ◌==◌, ◌^◌, ◌||◌, ◌∙◌, ◌≡◌, ◌≢◌, ◌≤◌}
 use Rattle.std.specs.declared.cmp.Ordering.TheVariants.{Equal}
 use Rattle.key_slots.proofs.Sums.{total-least, into_map}
 use Rattle.store_core.proofs.Kept.{key_of_cell}
@@ -51,8 +51,8 @@ module _ (a : Attributes) (bytes : List ℕ) (driver : Bool) (checks : checked a
   pub kept_local : is_volatile a ≡ false → is_opaque a ≡ false
   kept_local lasts = ap (λ n. n / 2 ^ 8 == 1) (kept_lifetime a.lifetime.0 driver lasts lifetime_is)
 
-  pub key_of_checked : is_volatile a ≡ false → a.key_type.0 < 2 ^ 16 → a.policy.usage.0 < 2 ^ 32 → a.policy.alg < 2 ^ 32 → IsKeyOf a bytes
-  key_of_checked lasts type_fits usage_fits alg_fits = record {
+  pub key_of_checked : is_volatile a ≡ false → FitsRecord a → IsKeyOf a bytes
+  key_of_checked lasts fits = record {
     kept = record {
       lifetime = kept_lifetime a.lifetime.0 driver lasts lifetime_is;
       size = ap (λ o. unless o (8 * length bytes)) sizes ∙ ap Ok (ap (λ (x : Attributes). x.bits) passed.1);
@@ -60,9 +60,7 @@ module _ (a : Attributes) (bytes : List ℕ) (driver : Bool) (checks : checked a
       short = few_bytes a.key_type.0 (length bytes) known_size;
       usage = and_from (bit_and a.policy.usage.0 0xffff00f8 == 0) (implied_usage a.policy.usage.0 == a.policy.usage.0)
           (not-false (bit_and a.policy.usage.0 0xffff00f8 == 0) (none_holds (attribute_rows a (length bytes) driver) 2 passed.0)) (same_usage (implied_usage a.policy.usage.0) a.policy.usage.0 (ap (λ (x : Attributes). x.policy.usage.0) passed.1));
-      type_fits = type_fits;
-      usage_fits = usage_fits;
-      alg_fits = alg_fits;
+      fits = fits;
     };
     named = subst (λ b. IsStated b a.id.0) lasts (stated_id a (length bytes) driver checks);
   } where

@@ -6,7 +6,7 @@ pub use Rattle.driver_dispatch.specs.Held.{HeldKey, HeldKeys, held_key, with_cop
 pub use Rattle.key_attributes.specs.Checks.{attribute_rows, checked, filled, implied_usage, is_key_type, is_lifetime, is_stated_id, location, permits_size, persistence, size_rows}
 pub use Rattle.key_attributes.specs.declared.Attributes.{Attributes}
 pub use Rattle.key_cells.proofs.CellsRead.{content_there, for_told, some_weaker}
-pub use Rattle.key_cells.specs.Prelude.{Absent, Content, Doubtful, Finds, HasKey, HasNoKey, HasOneEach, HasZeros, HoldsId, HoldsKey, IsFirstWithoutKey, IsFoundIn, IsFull, IsKeyOf, IsNamed, IsNumbered, IsOpened, IsPersistent, IsOpeningRefused, IsSure, Present, Shows, Sound, StandsForContents, body, cell_state, closed, content_at, content_of, creation_of_state, found_in, gate, has_id, is_open, opened_gate, place, settled_state, settled_states}
+pub use Rattle.key_cells.specs.Prelude.{Absent, Content, Doubtful, Finds, FitsRecord, HasKey, HasNoKey, HasOneEach, HasZeros, HoldsId, HoldsKey, IsFirstWithoutKey, IsFoundIn, IsFull, IsKeyOf, IsNamed, IsNumbered, IsOpened, IsPersistent, IsOpeningRefused, IsSure, Present, Shows, Sound, StandsForContents, body, cell_state, closed, content_at, content_of, creation_of_state, found_in, gate, has_id, is_open, opened_gate, place, settled_state, settled_states}
 unfoldable pub use Rattle.key_cells.specs.Prelude.{zeros}
 pub use Rattle.key_cells.specs.declared.reading.OpenFault.TheVariants.{Memory}
 pub use Rattle.key_cells.specs.declared.state.CellState.TheVariants.{Free, Open, Shut, Unsure}
@@ -23,7 +23,7 @@ pub use Rattle.key_slots.specs.declared.slots.KeySlots.{KeySlots}
 pub use Rattle.persistent_keys.proofs.Leading.{stands_fits, stays}
 pub use Rattle.persistent_keys.specs.Files.{AreFound, Doubt, doubt_undestroyed, doubt_unmade, FitsEitherKeys, FitsKeys, IsDoubtedIn, IsPut, Keys, Leads, StandsForKeys, Stored, stored, TellsCell}
 pub use Rattle.persistent_keys.specs.declared.file.KeyFile.{KeyFile}
-pub use Rattle.policy_rules.specs.Narrow.{after_rules, after_verdict, narrowed}
+pub use Rattle.policy_rules.specs.Narrow.{after_rules, after_verdict, names_ecb, narrowed}
 pub use Rattle.policy_rules.specs.declared.narrowing.Label.{Label}
 pub use Rattle.psa_status.proofs.Rows.{first_row-back, first_row-front, unless-err, unless-ok}
 pub use Rattle.psa_status.specs.Causes.{Rose}

@@ -1,5 +1,5 @@
 -- What a copy records of its source.
-use Rattle.store_core.proofs.Common.{[], after_rules, after_verdict, ap, arith, as_stated, attribute_rows, Attributes, Bool, checked, cond, copy_attributes, eqb-true, Err, false, filled, first_row, has_secure_element, identified, IfOk, InvalidArgument, is_opaque, is_volatile, IsSoundKey, Key, Label, length, List, location, Model, narrowed, none_holds, not, not-false, Ok, ok_or, recorded_copy, recorded_of, refl, Result, room_for_key_rows, Some, source_rows, Status, subst, sym, then_ok, true, unless, unless-ok, ℕ, ◌&&◌, ◌*◌, ◌/◌, ◌==◌, ◌∙◌, ◌∷◌, ◌≡◌}
+use Rattle.store_core.proofs.Common.{[], after_rules, after_verdict, ap, arith, as_stated, attribute_rows, Attributes, Bool, checked, cond, copy_attributes, eqb-true, Err, false, filled, first_row, has_secure_element, identified, IfOk, InvalidArgument, is_opaque, is_volatile, IsSoundKey, Key, Label, length, List, location, Model, names_ecb, narrowed, none_holds, not, not-false, Ok, ok_or, recorded_copy, recorded_of, refl, Result, room_for_key_rows, Some, source_rows, Status, subst, sym, then_ok, true, unless, unless-ok, ℕ, ◌&&◌, ◌*◌, ◌/◌, ◌==◌, ◌∙◌, ◌∷◌, ◌≡◌}
 use Rattle.policy_rules.specs.declared.narrowing.Label.TheVariants.{NoExport, NoCopy, NoEcb, Aes256}
 use Rattle.policy_rules.specs.declared.narrowing.Verdict.{Verdict}
 use Rattle.policy_rules.specs.declared.narrowing.Verdict.TheVariants.{Keep, Refuse}
@@ -35,7 +35,7 @@ alike_or_refused false a = record { key_type = refl; lifetime = refl }
 narrowed_alike : (label : Label) (a : Attributes) → IsAlikeIn a (narrowed label a)
 narrowed_alike NoExport a = record { key_type = refl; lifetime = refl }
 narrowed_alike NoCopy a = record { key_type = refl; lifetime = refl }
-narrowed_alike NoEcb a = alike_or_refused (a.policy.alg == 0x04404400) a
+narrowed_alike NoEcb a = alike_or_refused (names_ecb a.policy) a
 narrowed_alike Aes256 a = alike_or_refused (a.key_type.0 == 0x2400 && not (a.bits == 256)) a
 
 then_alike : (a kept : Attributes) (r : Result Attributes Status) → IsAlike a kept → IfOk r (IsAlike kept) → IfOk r (IsAlike a)

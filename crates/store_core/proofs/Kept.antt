@@ -62,7 +62,7 @@ module _ (a : Attributes) (bytes : List ℕ) (is : IsKeyOf a bytes) where
         ∙ cond-false (not (a.bits == 0) && not (a.bits == 8 * length bytes)) (Some InvalidArgument) None bits_fit
 
     abbrev with_parts : ℕ → ℕ → Attributes
-    with_parts bits flags = record a { bits = bits; policy = record { usage = record { 0 = flags }; alg = a.policy.alg } }
+    with_parts bits flags = record a { bits = bits; policy = record (a.policy) { usage = record { 0 = flags } } }
 
     filled_same : filled a (length bytes) ≡ a
     filled_same =

@@ -1,5 +1,5 @@
 -- A ranked turn that creates a key of the file.
-use Rattle.store_core.proofs.Common.{[], AdmissionGhosts, Agrees, ap, AreHoldings, arith, Attributes, Bool, bytes_of, CellState, cond, counted, Course, created, DevicesGhosts, DiskGhosts, Doubt, doubt_after, doubt_by, doubt_unmade, durable_keys, Entry, false, false≢true, FaultMark, full_slot, has_secure_element, HasNoKey, is_opaque, is_persistent_key, is_some, is_volatile, IsAboutToCreate, IsEntry, IsFirstWithoutKey, IsFull, IsKeyOf, IsMaking, IsMaterial, IsPut, IsSince, IsSure, IsThereOrNew, kept, Key, key_changed, KeyFile, Keys, KeySlots, last_counts, Leads, length, List, map_get, MayBeKept, Model, new_id, new_key, NoKey, None, not, Open, Opening, Option, outcome_of, Pairs, Plain, Puts, recorded, refl, replay, Rose, serve, Service, set, settled_states, SlotHasKey, Some, StandsFor, StandsForKeys, Storage, Store, Stored, stored, subst, sym, Told, true, Writing, ℕ, ◌++◌, ◌+◌, ◌<◌, ◌^◌, ◌∙◌, ◌∷◌, ◌≡◌, ◌≤◌}
+use Rattle.store_core.proofs.Common.{[], AdmissionGhosts, Agrees, ap, AreHoldings, arith, Attributes, Bool, bytes_of, CellState, cond, counted, Course, created, DevicesGhosts, DiskGhosts, Doubt, doubt_after, doubt_by, doubt_unmade, durable_keys, Entry, false, false≢true, FaultMark, FitsRecord, full_slot, has_secure_element, HasNoKey, is_opaque, is_persistent_key, is_some, is_volatile, IsAboutToCreate, IsEntry, IsFirstWithoutKey, IsFull, IsKeyOf, IsMaking, IsMaterial, IsPut, IsSince, IsSure, IsThereOrNew, kept, Key, key_changed, KeyFile, Keys, KeySlots, last_counts, Leads, length, List, map_get, MayBeKept, Model, new_id, new_key, NoKey, None, not, Open, Opening, Option, outcome_of, Pairs, Plain, Puts, recorded, refl, replay, Rose, serve, Service, set, settled_states, SlotHasKey, Some, StandsFor, StandsForKeys, Storage, Store, Stored, stored, subst, sym, Told, true, Writing, ℕ, ◌++◌, ◌+◌, ◌<◌, ◌^◌, ◌∙◌, ◌∷◌, ◌≡◌, ◌≤◌}
 use Rattle.key_cells.specs.Contents as contents
 use Rattle.persistent_keys.specs.declared.file.MakeFault.TheVariants.{Disk}
 use Rattle.store_core.proofs.Holding.{same_device}
@@ -37,8 +37,8 @@ module _ {D A C : Type 0} {disks : DiskGhosts D} {elements : DevicesGhosts A} {a
     local : is_opaque a ≡ false
     local = kept_local a r.bytes (has_secure_element m) ready_may.checks persistent
 
-    pub ready_key : a.key_type.0 < 2 ^ 16 → a.policy.usage.0 < 2 ^ 32 → a.policy.alg < 2 ^ 32 → IsKeyOf a (bytes_of old.buffer)
-    ready_key type_fits usage_fits alg_fits = subst (IsKeyOf a) (sym (in_buffer local)) (key_of_checked a r.bytes (has_secure_element m) ready_may.checks persistent type_fits usage_fits alg_fits)
+    pub ready_key : FitsRecord a → IsKeyOf a (bytes_of old.buffer)
+    ready_key fits = subst (IsKeyOf a) (sym (in_buffer local)) (key_of_checked a r.bytes (has_secure_element m) ready_may.checks persistent fits)
 
     none_there : map_get m.keys a.id.0 ≡ None
     none_there = none_stated m caller a r.bytes first last r.holds.sound ready_may persistent

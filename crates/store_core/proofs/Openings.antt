@@ -40,7 +40,7 @@ cell_in slots (byte ∷ rest) now are c id number lt is =
 -- some key of an identifier, for a disk that doesn't tell
 any_key : ℕ → OpenedKey
 any_key id = record {
-  attributes = record { lifetime = record { 0 = 1 }; id = record { 0 = id }; key_type = record { 0 = 0x1001 }; bits = 8; policy = record { usage = record { 0 = 0 }; alg = 0 } };
+  attributes = record { lifetime = record { 0 = 1 }; id = record { 0 = id }; key_type = record { 0 = 0x1001 }; bits = 8; policy = record { usage = record { 0 = 0 }; alg = record { 0 = 0 }; alg2 = record { 0 = 0 } } };
   bytes = 0 ∷ [];
 }
 
@@ -50,7 +50,7 @@ any_of_id c id named = record {
   key = any_key id;
   is = record {
     named = refl;
-    kept = record { kept = record { lifetime = refl; size = refl; some = omega arith; short = omega arith; usage = refl; type_fits = omega arith; usage_fits = omega arith; alg_fits = omega arith }; named = named };
+    kept = record { kept = record { lifetime = refl; size = refl; some = omega arith; short = omega arith; usage = refl; fits = record { key_type = omega arith; usage = omega arith; alg = omega arith; alg2 = omega arith } }; named = named };
     holds = tt;
   };
 }

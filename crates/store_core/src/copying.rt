@@ -47,7 +47,7 @@ impl NotCopied {
 }
 
 impl<D: Disk, A: Devices, C: Admission> Store<D, A, C> {
-    /// Makes a key of a source's bytes, with what both its policy and the stated one permit, in the slot that waits for it, and
+    /// Makes a key of a source's bytes, with the meet of its policy and the stated one, in the slot that waits for it, and
     /// answers its identifier. A key of the secure element is copied there. The slot is given up where no key is made. A refusal
     /// writes nothing to the disk and calls no device. Ranked.
     pub fn copy(

@@ -7,6 +7,7 @@ ghost use Rattle.key_attributes.specs.Checks.{is_key_type, permits_size};
 ghost use Rattle.driver_dispatch.specs.Held.{with_copy, with_held_key};
 ghost use Rattle.driver_dispatch.specs.Calls.{Changes, HoldsHandle, Lacks, has_element};
 ghost use Rattle.secret_bytes.specs.Buffer.{IsClear, bytes_of};
+ghost use Rattle.key_cells.specs.Prelude.{FitsRecord};
 ghost use Rattle.slot_table.specs.Slots.{NoKey, empty_slot, slot_at};
 ghost use Rattle.slot_table.specs.Changes.{full_slot};
 ghost use Rattle.key_slots.specs.Standing.{IsOut};
@@ -294,11 +295,10 @@ fn give<A: Devices>(
 
 // Reads the numbers of attributes: the checker knows the range of a number once it is read.
 fn read_numbers(attributes: &Attributes)
-    ensures key_type { attributes.now.key_type.0 < 2 ^ 16 }
-    ensures usage { attributes.now.policy.usage.0 < 2 ^ 32 }
-    ensures alg { attributes.now.policy.alg < 2 ^ 32 }
+    ensures { FitsRecord attributes.now }
 {
     let _key_type = attributes.key_type.0;
     let _usage = attributes.policy.usage.0;
-    let _alg = attributes.policy.alg;
+    let _alg = attributes.policy.alg.0;
+    let _alg2 = attributes.policy.alg2.0;
 }

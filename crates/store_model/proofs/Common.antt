@@ -6,7 +6,7 @@ pub use Rattle.key_attributes.specs.Checks.{attribute_rows, checked, filled, imp
 pub use Rattle.key_attributes.specs.declared.Attributes.{Attributes}
 pub use Rattle.key_attributes.specs.declared.Policy.{Policy}
 pub use Rattle.policy_rules.proofs.Copies.{IsWithin-implied, IsWithin-refl, IsWithin-trans, meet-within_source}
-pub use Rattle.policy_rules.specs.Narrow.{after_rules, after_verdict, narrowed, only_usage}
+pub use Rattle.policy_rules.specs.Narrow.{after_rules, after_verdict, names_ecb, narrowed, only_usage}
 pub use Rattle.policy_rules.specs.Policy.{IsFilled, IsWithin, meet_of, with_implied}
 pub use Rattle.policy_rules.specs.declared.narrowing.Label.{Label}
 pub use Rattle.policy_rules.specs.declared.narrowing.Label.TheVariants.{Aes256, NoCopy, NoEcb, NoExport}

@@ -25,7 +25,7 @@ is_none n h = grind (arith, nat_tests)
 
 -- the rows of attributes that pass, with another usage and other bits
 rows_with : (a : Attributes) (n : ℕ) (driver : Bool) (usage bits : ℕ) → first_row (attribute_rows a n driver) ≡ None → bit_and usage no_flag ≡ 0 → (not (bits == 0) && not (bits == 8 * n)) ≡ false →
-    first_row (attribute_rows (record a { bits = bits; policy = record { usage = record { 0 = usage }; alg = a.policy.alg } }) n driver) ≡ None
+    first_row (attribute_rows (record a { bits = bits; policy = record (a.policy) { usage = record { 0 = usage } } }) n driver) ≡ None
 rows_with a n driver usage bits h flags size =
     six (not (is_lifetime a.lifetime.0 driver)) (not (is_stated_id a.lifetime.0 a.id.0)) (not (bit_and a.policy.usage.0 no_flag == 0)) (not (is_key_type a.key_type.0)) (not (permits_size a.key_type.0 n))
     (not (a.bits == 0) && not (a.bits == 8 * n)) h (not (bit_and usage no_flag == 0)) (not (bits == 0) && not (bits == 8 * n)) (none_of (bit_and usage no_flag) flags) size
@@ -56,7 +56,7 @@ pub filled-checked : (a : Attributes) (n : ℕ) (driver : Bool) → first_row (a
 filled-checked a n driver h =
     let usage = implied-implied a.policy.usage.0 in
     passes (filled a n) n driver (rows_with a n driver (implied_usage a.policy.usage.0) (8 * n) h (mask_implied a.policy.usage.0 ∙ no_flags a n driver h) (same_bits n))
-    (λ i. record (filled a n) { policy = record { usage = record { 0 = usage i }; alg = a.policy.alg } })
+    (λ i. record (filled a n) { policy = record (a.policy) { usage = record { 0 = usage i } } })
 
 -- WITH FEWER FLAGS
 
@@ -89,4 +89,4 @@ only_usage-checked a n driver flags f h =
     let usage = fewer_implied a.policy.usage.0 flags (ap (λ (x : Attributes). x.policy.usage.0) was.1) f in
     passes (only_usage a flags) n driver
     (rows_with a n driver (bit_and a.policy.usage.0 flags) a.bits was.0 (fewer_none a.policy.usage.0 flags (no_flags a n driver was.0)) (none_holds (attribute_rows a n driver) 5 was.0))
-    (λ i. record (only_usage a flags) { bits = bits i; policy = record { usage = record { 0 = usage i }; alg = a.policy.alg } })
+    (λ i. record (only_usage a flags) { bits = bits i; policy = record (a.policy) { usage = record { 0 = usage i } } })

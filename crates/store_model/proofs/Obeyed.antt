@@ -2,7 +2,7 @@
 
 -- a rule keeps these attributes as they are
 use Rattle.std.proofs.Common.{Bool, List, Ok, Result, [], ap, bit_and, cond, false, not, refl, subst, sym, true, ℕ, ◌&&◌, ◌==◌, ◌∙◌, ◌∷◌, ◌≡◌}
-use Rattle.store_model.proofs.Common.{Aes256, Attributes, Keep, Label, NoCopy, NoEcb, NoExport, Refuse, Status, Verdict, after_rules, after_verdict, and_assoc, and_comm, and_self, identified, narrowed, only_usage}
+use Rattle.store_model.proofs.Common.{Aes256, Attributes, Keep, Label, NoCopy, NoEcb, NoExport, Refuse, Status, Verdict, after_rules, after_verdict, and_assoc, and_comm, and_self, identified, names_ecb, narrowed, only_usage}
 
 abbrev pub Obeys : Label → Attributes → Type 0
 Obeys label a = narrowed label a ≡ Keep a
@@ -18,7 +18,7 @@ abbrev IsInside : Attributes → ℕ → Type 0
 IsInside a flags = bit_and a.policy.usage.0 flags ≡ a.policy.usage.0
 
 same_usage : (a : Attributes) (flags : ℕ) → IsInside a flags → Keep (only_usage a flags) ≡ Keep a
-same_usage a flags e = λ i. Keep (record a { policy = record { usage = record { 0 = e i }; alg = a.policy.alg } })
+same_usage a flags e = λ i. Keep (record a { policy = record (a.policy) { usage = record { 0 = e i } } })
 
 inside : (a : Attributes) (flags : ℕ) → Keep (only_usage a flags) ≡ Keep a → IsInside a flags
 inside a flags e = let same : only_usage a flags ≡ a = cc in ap (λ (x : Attributes). x.policy.usage.0) same
@@ -43,27 +43,27 @@ tested false a kept e = cc
 with_fewer : (label : Label) (a : Attributes) (flags : ℕ) → Obeys label a → Obeys label (only_usage a flags)
 with_fewer NoExport a flags h = same_usage (only_usage a flags) 0xfffffffe (still_inside a flags 0xfffffffe (inside a 0xfffffffe h))
 with_fewer NoCopy a flags h = same_usage (only_usage a flags) 0xfffffffd (still_inside a flags 0xfffffffd (inside a 0xfffffffd h))
-with_fewer NoEcb a flags h = passes (a.policy.alg == 0x04404400) a (only_usage a flags) h
+with_fewer NoEcb a flags h = passes (names_ecb a.policy) a (only_usage a flags) h
 with_fewer Aes256 a flags h = passes (a.key_type.0 == 0x2400 && not (a.bits == 256)) a (only_usage a flags) h
 
 with_id : (label : Label) (a : Attributes) (id : ℕ) → Obeys label a → Obeys label (identified a id)
 with_id NoExport a id h = same_usage (identified a id) 0xfffffffe (inside a 0xfffffffe h)
 with_id NoCopy a id h = same_usage (identified a id) 0xfffffffd (inside a 0xfffffffd h)
-with_id NoEcb a id h = passes (a.policy.alg == 0x04404400) a (identified a id) h
+with_id NoEcb a id h = passes (names_ecb a.policy) a (identified a id) h
 with_id Aes256 a id h = passes (a.key_type.0 == 0x2400 && not (a.bits == 256)) a (identified a id) h
 
 -- what a rule left obeys it
 narrowed_obeys : (label : Label) (a kept : Attributes) → narrowed label a ≡ Keep kept → Obeys label kept
 narrowed_obeys NoExport a kept e = let same : only_usage a 0xfffffffe ≡ kept = cc in subst (Obeys NoExport) same (same_usage (only_usage a 0xfffffffe) 0xfffffffe (inside_itself a 0xfffffffe))
 narrowed_obeys NoCopy a kept e = let same : only_usage a 0xfffffffd ≡ kept = cc in subst (Obeys NoCopy) same (same_usage (only_usage a 0xfffffffd) 0xfffffffd (inside_itself a 0xfffffffd))
-narrowed_obeys NoEcb a kept e = ap (narrowed NoEcb) (sym (tested (a.policy.alg == 0x04404400) a kept e)) ∙ e
+narrowed_obeys NoEcb a kept e = ap (narrowed NoEcb) (sym (tested (names_ecb a.policy) a kept e)) ∙ e
 narrowed_obeys Aes256 a kept e = ap (narrowed Aes256) (sym (tested (a.key_type.0 == 0x2400 && not (a.bits == 256)) a kept e)) ∙ e
 
 -- and each rule that was obeyed before
 still_obeys : (label other : Label) (a kept : Attributes) → narrowed other a ≡ Keep kept → Obeys label a → Obeys label kept
 still_obeys label NoExport a kept e h = let same : only_usage a 0xfffffffe ≡ kept = cc in subst (Obeys label) same (with_fewer label a 0xfffffffe h)
 still_obeys label NoCopy a kept e h = let same : only_usage a 0xfffffffd ≡ kept = cc in subst (Obeys label) same (with_fewer label a 0xfffffffd h)
-still_obeys label NoEcb a kept e h = subst (Obeys label) (tested (a.policy.alg == 0x04404400) a kept e) h
+still_obeys label NoEcb a kept e h = subst (Obeys label) (tested (names_ecb a.policy) a kept e) h
 still_obeys label Aes256 a kept e h = subst (Obeys label) (tested (a.key_type.0 == 0x2400 && not (a.bits == 256)) a kept e) h
 
 -- RULES IN THEIR ORDER

@@ -1,6 +1,6 @@
 -- What a creation records, and its refusals.
 use Rattle.std.proofs.Common.{Bool, Err, IfOk, List, None, Ok, Result, [], arith, cond, false, nat_le, not, refl, subst, sym, true, ℕ, ◌&&◌, ◌==◌, ◌∷◌, ◌≡◌, ◌≤◌}
-use Rattle.store_model.proofs.Common.{Aes256, AlreadyExists, Attributes, InsufficientStorage, InvalidArgument, IsWithin, IsWithin-refl, IsWithin-trans, Keep, KeyLimit, Label, NoCopy, NoEcb, NoExport, NotPermitted, NotSupported, Refuse, Rows, Status, Store, Verdict, after_rules, after_verdict, attribute_rows, checked, filled, first_row, has_secure_element, is_volatile, narrowed, nat_tests, permits_size, recorded_of, room_for_key_rows, unless, unless-err, unless-ok, with_implied}
+use Rattle.store_model.proofs.Common.{Aes256, AlreadyExists, Attributes, InsufficientStorage, InvalidArgument, IsWithin, IsWithin-refl, IsWithin-trans, Keep, KeyLimit, Label, NoCopy, NoEcb, NoExport, NotPermitted, NotSupported, Refuse, Rows, Status, Store, Verdict, after_rules, after_verdict, attribute_rows, checked, filled, first_row, has_secure_element, is_volatile, names_ecb, narrowed, nat_tests, permits_size, recorded_of, room_for_key_rows, unless, unless-err, unless-ok, with_implied}
 use Rattle.psa_status.specs.Rows.{◌>>=◌}
 use Rattle.policy_rules.proofs.Rules.{narrowed-within}
 use Rattle.store_model.proofs.Filled.{filled-checked, only_usage-checked}
@@ -45,7 +45,7 @@ kept_or_refused n driver false a = narrows_none n driver a
 narrows : (n : ℕ) (driver : Bool) (label : Label) (a : Attributes) → NarrowsTo n driver a (narrowed label a)
 narrows n driver NoExport a = record { policy = narrowed-within NoExport a; checks = only_usage-checked a n driver 0xfffffffe refl }
 narrows n driver NoCopy a = record { policy = narrowed-within NoCopy a; checks = only_usage-checked a n driver 0xfffffffd refl }
-narrows n driver NoEcb a = kept_or_refused n driver (a.policy.alg == 0x04404400) a
+narrows n driver NoEcb a = kept_or_refused n driver (names_ecb a.policy) a
 narrows n driver Aes256 a = kept_or_refused n driver (a.key_type.0 == 0x2400 && not (a.bits == 256)) a
 
 then_narrows : (n : ℕ) (driver : Bool) (a kept : Attributes) (r : Result Attributes Status) → Narrows n driver a kept → IfOk r (Narrows n driver kept) → IfOk r (Narrows n driver a)

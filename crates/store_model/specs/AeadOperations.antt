@@ -86,9 +86,6 @@ with_nonce w nonce = record w { nonce = Some nonce }
 abbrev pub with_lengths : AeadWork → ℕ → ℕ → AeadWork
 with_lengths w ad payload = record w { lengths = Some (record { ad = ad; payload = payload }) }
 
-abbrev pub with_ad : AeadWork → List ℕ → AeadWork
-with_ad w input = record w { ad = w.ad ++ input }
-
 abbrev pub with_payload : AeadWork → List ℕ → AeadWork
 with_payload w input = record w { text = w.text ++ input; has_text = true }
 
@@ -135,7 +132,7 @@ aead_step random w (AeadGenerateNonce room) =
     unless_failed (first_row (generate_nonce_rows w room)) (record { operation = Active (with_nonce w nonce); reply = given nonce; drawn = nonce_length w })
 aead_step random w (AeadSetNonce nonce) = unless_failed (first_row (set_nonce_rows w nonce)) (goes_on (with_nonce w nonce) done)
 aead_step random w (AeadSetLengths ad payload) = unless_failed (first_row (set_lengths_rows w ad payload)) (goes_on (with_lengths w ad payload) done)
-aead_step random w (AeadUpdateAd input) = unless_failed (first_row (update_ad_rows w input)) (goes_on (with_ad w input) done)
+aead_step random w (AeadUpdateAd input) = unless_failed (first_row (update_ad_rows w input)) (goes_on (record w { ad = w.ad ++ input }) done)
 aead_step random w (AeadUpdate input room) =
     unless_failed (first_row (aead_update_rows w input room)) (goes_on (with_payload w input) (given (aead_fresh w (with_payload w input))))
 aead_step random w (AeadFinish room) =

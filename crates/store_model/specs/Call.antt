@@ -1,5 +1,5 @@
 -- Calls and replies.
-use Rattle.std.specs.Prelude.{ℕ, List, [], ◌++◌, length, drop, replicate, ◌-◌}
+use Rattle.std.specs.Prelude.{ℕ, ◌-◌, ◌==◌, List, [], ◌++◌, length, drop, replicate, if◌then◌else◌}
 use Rattle.std.specs.Int.{w16, w32, w64, to_be_bytes}
 use Rattle.psa_status.specs.declared.Status.{Status}
 use Rattle.key_attributes.specs.declared.Attributes.{Attributes}
@@ -37,11 +37,11 @@ pub record Reply : Type 0 where
   pub output : Output
   pub needed : ℕ
 
--- attributes as bytes: lifetime, identifier, type, bits, usage, algorithm, big-endian
+-- attributes as bytes: lifetime, identifier, type, bits, usage, algorithm, and the second one where there is one, big-endian
 abbrev pub attribute_bytes : Attributes → List ℕ
 attribute_bytes a =
     to_be_bytes w32 a.lifetime.0 ++ to_be_bytes w32 a.id.0 ++ to_be_bytes w16 a.key_type.0 ++ to_be_bytes w16 a.bits
-    ++ to_be_bytes w32 a.policy.usage.0 ++ to_be_bytes w32 a.policy.alg
+    ++ to_be_bytes w32 a.policy.usage.0 ++ to_be_bytes w32 a.policy.alg.0 ++ (if a.policy.alg2.0 == 0 then [] else to_be_bytes w32 a.policy.alg2.0)
 
 abbrev pub output_bytes : Output → List ℕ
 output_bytes (Identifier id) = to_be_bytes w32 id

@@ -32,10 +32,6 @@ bytes_or_empty found = option_map_or (λ bytes. bytes) found []
 abbrev pub whole_blocks : List ℕ → List ℕ
 whole_blocks text = take (16 * (length text / 16)) text
 
--- (n - 1) / 16 blocks of n bytes, and none of no bytes
-abbrev pub blocks_but_last : List ℕ → List ℕ
-blocks_but_last text = take (16 * ((length text - 1) / 16)) text
-
 abbrev pub due_enciphered : Mode → (key iv text : List ℕ) → List ℕ
 due_enciphered Ctr key iv text = ctr_xor (aes_encrypt key) iv text
 due_enciphered EcbNoPadding key iv text = ecb_encrypt (aes_encrypt key) (whole_blocks text)
@@ -44,7 +40,7 @@ due_enciphered _ key iv text = cbc_encrypt (aes_encrypt key) iv (whole_blocks te
 abbrev pub due_deciphered : Mode → (key iv text : List ℕ) → List ℕ
 due_deciphered Ctr key iv text = ctr_xor (aes_encrypt key) iv text
 due_deciphered CbcNoPadding key iv text = cbc_decrypt (aes_decrypt key) iv (whole_blocks text)
-due_deciphered CbcPkcs7 key iv text = cbc_decrypt (aes_decrypt key) iv (blocks_but_last text)
+due_deciphered CbcPkcs7 key iv text = cbc_decrypt (aes_decrypt key) iv (take (16 * ((length text - 1) / 16)) text)  -- (n - 1) / 16 blocks of n bytes, and none of no bytes
 due_deciphered EcbNoPadding key iv text = ecb_decrypt (aes_decrypt key) (whole_blocks text)
 
 abbrev pub cipher_due : CipherWork → List ℕ

@@ -1,4 +1,4 @@
--- COPY: a key of the source's bytes, with what both its policy and the stated one permit.
+-- COPY: a key of the source's bytes, with the meet of its policy and the stated one.
 use Rattle.std.specs.Prelude.{ℕ, Bool, not, ◌&&◌, ◌||◌, ◌==◌, [], ◌∷◌, length, bit_and, Option, Some, None, ok_or, Result, Err}
 use Rattle.store_model.specs.Common.{Attributes, InvalidArgument, InvalidHandle, Key, NotPermitted, NotSupported, Policy, Rows, Status, Store, first_row, location, meet_of, unless, ◌>>=◌}
 use Rattle.store_model.specs.Creation.{recorded_of}

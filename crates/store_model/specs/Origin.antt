@@ -52,7 +52,7 @@ abbrev pub origin_of : List Made → ℕ → ℕ
 origin_of [] number = number
 origin_of (m ∷ older) number = if m.number == number then origin_from number m.source (origin_of older) else origin_of older number
 
--- a creation has an origin, which is no copy, and whose policy has each flag and permits each algorithm of its own
+-- a creation has an origin, which is no copy, and whose policy has each flag and allows each algorithm of its own
 pub record HasOrigin (made : List Made) (m : Made) : Type 0 where
   pub origin : Made
   pub found : creation_at made (origin_of made m.number) ≡ Some origin

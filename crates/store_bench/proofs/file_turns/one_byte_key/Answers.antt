@@ -9,9 +9,7 @@ returns c = λ byte. record {
     some = omega arith;
     short = omega arith;
     usage = refl;
-    type_fits = omega arith;
-    usage_fits = omega arith;
-    alg_fits = omega arith;
+    fits = record { key_type = omega arith; usage = omega arith; alg = omega arith; alg2 = omega arith };
   };
   named = (c.requires.some, c.requires.persistent);
 }

@@ -8,9 +8,8 @@ use Rattle.store_core.proofs.store.Store.create_kept.Goals as goal
 
 pub make-requires-clause-key : goal.make-requires-clause-key
 make-requires-clause-key g c =
-    let n = c.read_numbers.ensures in
     subst (IsKeyOf c.args.recorded) (sym c.as_slice.ensures.list)
-    (ready_key c.requires.ready.5 c.requires.first c.requires.last c.requires.persistent n.key_type n.usage n.alg)
+    (ready_key c.requires.ready.5 c.requires.first c.requires.last c.requires.persistent c.read_numbers.ensures)
 
 pub make-requires-clause-none : goal.make-requires-clause-none
 make-requires-clause-none g c = ready_cells c.requires.ready.5 c.requires.first c.requires.last c.requires.persistent
