@@ -29,6 +29,7 @@ is_named field.Capacity = record { cut = λ text. refl; again = refl }
 is_named field.Value = record { cut = λ text. refl; again = refl }
 is_named field.Length = record { cut = λ text. refl; again = refl }
 is_named field.Step = record { cut = λ text. refl; again = refl }
+is_named field.Alg2 = record { cut = λ text. refl; again = refl }
 
 pub name_cut : (w : List ℕ) (f : Field) (text : List ℕ) → w ≡ field_name f ++ 61 ∷ text → cut_of 61 w ≡ Some (field_name f, text)
 name_cut w f text e = ap (cut_of 61) e ∙ (is_named f).cut text
