@@ -83,6 +83,11 @@ def permits(policy, alg):
     return is_concrete(policy) and is_same(policy, alg)
 
 
+def stated(fields):
+    """The two numbers that a line states for a policy."""
+    return fields["alg"], fields.get("alg2", 0)
+
+
 def allows(numbers, alg):
     """Whether one of a policy's numbers permits a call's."""
     return any(permits(number, alg) for number in numbers)

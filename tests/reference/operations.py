@@ -328,7 +328,7 @@ class DerivationOperation(Operation):
             self.take(bits // 8)
         taken = lambda: self.take(bits // 8)
         return service.create(
-            session, fields, fields["type"], fields["usage"], bits, fields["alg"], bits // 8, taken
+            session, fields, fields["type"], fields["usage"], bits, alg.stated(fields), bits // 8, taken
         )
 
 

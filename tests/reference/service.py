@@ -36,10 +36,6 @@ class Key:
         return self.lifetime == OF_THE_ELEMENT
 
 
-def stated_algorithms(fields):
-    return fields["alg"], fields.get("alg2", 0)
-
-
 def narrowed(key, rules):
     """What the admission rules leave of a key that is to be created."""
     require("no-ecb" not in rules or alg.ECB not in key.algorithms, "NOT_PERMITTED")
@@ -109,7 +105,7 @@ class Service:
             fields["type"],
             fields["usage"],
             fields.get("bits", 0),
-            stated_algorithms(fields),
+            alg.stated(fields),
             len(data),
             lambda: data,
         )
@@ -119,7 +115,7 @@ class Service:
         require(bits and bits % 8 == 0, "INVALID_ARGUMENT")
         drawn = lambda: self.draw(session, bits // 8)
         return self.create(
-            session, fields, fields["type"], fields["usage"], bits, stated_algorithms(fields), bits // 8, drawn
+            session, fields, fields["type"], fields["usage"], bits, alg.stated(fields), bits // 8, drawn
         )
 
     def copy(self, session, fields):
@@ -128,7 +124,7 @@ class Service:
         require(fields.get("type", 0) in (0, source.key_type), "INVALID_ARGUMENT")
         require(fields.get("bits", 0) in (0, source.bits), "INVALID_ARGUMENT")
         require(location(fields.get("life", 0)) == location(source.lifetime), "NOT_SUPPORTED")
-        met = tuple(map(alg.meet, source.algorithms, stated_algorithms(fields)))
+        met = tuple(map(alg.meet, source.algorithms, alg.stated(fields)))
         require(None not in met, "INVALID_ARGUMENT")
         usage = fields["usage"] & source.usage
         return self.create(
