@@ -2,6 +2,7 @@ mod Common
 mod Ends
 mod Again
 mod Cuts
+mod Near
 mod Digits
 mod HexText
 mod Named

@@ -11,7 +11,7 @@ use crate::commands::Row;
 use crate::faults::{LineError, Reason};
 use crate::field_list::Fields;
 use crate::numbers::number_of;
-use crate::pieces::{Words, cut};
+use crate::pieces::{Words, cut, near_place};
 use crate::script::ByteList;
 use hex::FromHexError;
 use std::alloc::Global;
@@ -239,7 +239,7 @@ fn field_at(
 ) -> Result<(Field, FieldValue), LineError>
     ensures { Gives (λ f. f) result (read_field (shape row) done.now word.now) }
 {
-    let Some((name, text)) = cut(word, b'=') else {
+    let Some((name, text)) = cut(word, b'=', near_place(b'=', word)) else {
         return Err(LineError::Bad(Reason::UnknownField));
     };
     let Some(field) = Field::named(name) else {

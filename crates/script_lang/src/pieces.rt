@@ -1,18 +1,40 @@
 // Texts cut at a byte: the lines of a text and the words of a line.
 ghost use Rattle.std.specs.Prelude.{◌≡◌, ◌∷◌, ◌<◌, [], length, option_map, MatchOption, IfSome};
+ghost use Rattle.memchr.specs.Find.{IsFirstByte, is_byte};
 ghost use Rattle.script_lang.specs.Pieces.{pieces, words, cut_of, without_return, text_lines};
 
 use memchr::memchr;
 use std::marker::Model;
 
-/// The text before the first separator and the text after it.
-pub(crate) fn cut(text: &[u8], separator: u8) -> Option<(&[u8], &[u8])>
-    ensures cut { MatchOption result (pieces separator text.now ≡ text.now ∷ [])
-        (λ p. pieces separator text.now ≡ p.0.now ∷ pieces separator p.1.now) }
-    ensures exact { option_map (λ p. (p.0.now, p.1.now)) result ≡ cut_of separator text.now }
+/// So many bytes of a text are looked at one by one for a separator that is likely near, since a search of many bytes at once
+/// costs more to begin.
+const NEAR: usize = 16;
+
+/// The first place of a byte that is likely near.
+pub(crate) fn near_place(byte: u8, text: &[u8]) -> Option<usize>
+    ensures { IsFirstByte (is_byte byte) text.now result }
+{
+    let near = text.len().min(NEAR);
+    for place in 0..near {
+        if text[place] == byte {
+            return Some(place);
+        }
+    }
+    match memchr(byte, &text[near..]) {
+        Some(place) => Some(near + place),
+        None => None,
+    }
+}
+
+/// The text before the first separator, whose place is told, and the text after it.
+pub(crate) fn cut(text: &[u8], _separator: u8, place: Option<usize>) -> Option<(&[u8], &[u8])>
+    requires { IsFirstByte (is_byte _separator) text.now place }
+    ensures cut { MatchOption result (pieces _separator text.now ≡ text.now ∷ [])
+        (λ p. pieces _separator text.now ≡ p.0.now ∷ pieces _separator p.1.now) }
+    ensures exact { option_map (λ p. (p.0.now, p.1.now)) result ≡ cut_of _separator text.now }
     ensures shorter { IfSome result (λ p. length p.1.now < length text.now) }
 {
-    match memchr(separator, text) {
+    match place {
         None => None,
         Some(place) => Some((&text[..place], &text[place + 1..])),
     }
@@ -58,7 +80,7 @@ fn next_word(text: &[u8]) -> (Option<&[u8]>, &[u8])
     ensures { MatchOption result.0 (words text.now ≡ [] × words result.1.now ≡ []) (λ w. words text.now ≡ w.now ∷ words result.1.now) }
 {
     let mut rest = text;
-    while let Some((word, after)) = cut(rest, b' ') {
+    while let Some((word, after)) = cut(rest, b' ', near_place(b' ', rest)) {
         rest = after;
         if !word.is_empty() {
             return (Some(word), rest);
@@ -111,7 +133,7 @@ impl<'a> Lines<'a> {
 fn next_line(text: &[u8]) -> (Option<&[u8]>, &[u8])
     ensures { MatchOption result.0 (text_lines text.now ≡ [] × text_lines result.1.now ≡ []) (λ line. text_lines text.now ≡ line.now ∷ text_lines result.1.now) }
 {
-    match cut(text, b'\n') {
+    match cut(text, b'\n', memchr(b'\n', text)) {
         Some((line, rest)) => (Some(drop_return(line)), rest),
         None => {
             let end = &text[text.len()..];
