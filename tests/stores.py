@@ -96,6 +96,10 @@ def cells_that_open():
     ):
         key = replace(KEY, **values)
         yield name, cell(key), key
+    # a record with a second algorithm, byte by byte
+    spelled = bytes.fromhex("505341004b455900 00000000 01000000 0110 0800 01000000 00000000 00444004 01000000 ff")
+    key = replace(KEY, bits=8, algorithms=(0, 0x04404400), data=b"\xff")
+    yield "a spelled record", with_bytes(cell(None), 0, cell(key)[:RECORD_AT] + spelled), key
     for gate in (0, 1, OPEN - 1, 0xFF):
         yield f"a closed gate of {gate}", with_bytes(cell(KEY), 0, bytes([gate])), None
         yield f"any bytes behind a closed gate of {gate}", bytes([gate]) + os.urandom(CELL_LENGTH - 1), None
