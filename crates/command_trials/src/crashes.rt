@@ -5,6 +5,7 @@ use crate::cells::cells_of;
 use crate::fixtures::{Fixture, Ran, run};
 use crate::texts::Text;
 use disk_face::MemoryDisk;
+use key_cells::{FoundKey, InspectFault, inspect};
 use std::alloc::{AllocError, Global};
 use std::sync::Wait;
 use std::thread::Threads;
@@ -39,19 +40,46 @@ pub fn tell_end(ran: &Ran, page: &mut Text) -> Result<(), AllocError> {
     page.add(cells_of(ran.disk.bytes()))
 }
 
-// What a second run on an image tells, and what it exports.
+// Adds a key: its identifier, and its bytes in hex.
+fn add_key(alloc: Global, key: &FoundKey, page: &mut Text) -> Result<(), AllocError> {
+    page.add(" ")?;
+    page.add_number(u64::from(key.attributes.id.0))?;
+    page.add("=")?;
+    page.add(hex::encode(alloc, key.bytes.as_slice())?.as_str())
+}
+
+// Prints the keys that an inspection of an image finds, in the order of their cells, or why it finds none.
+fn tell_inspection(alloc: Global, image: &[u8], page: &mut Text) -> Result<(), AllocError> {
+    let keys = match inspect(alloc, image) {
+        Ok(keys) => keys,
+        Err(InspectFault::Memory) => return Err(AllocError),
+        Err(InspectFault::NotAStore) => return page.add("no store is found\n"),
+        Err(InspectFault::DamagedCell { cell: _ }) => return page.add("a damaged cell is found\n"),
+    };
+    page.add("keys that are found:")?;
+    if keys.is_empty() {
+        page.add(" none")?;
+    }
+    for key in &keys {
+        add_key(alloc, key, page)?;
+    }
+    page.add("\n")
+}
+
+// What an inspection finds in an image, and what a second run on it tells and exports.
 fn reopened<R: Threads + Wait + Sync>(
     rt: &R,
     alloc: Global,
     image: Vec<u8>,
 ) -> Result<Text, AllocError> {
+    let mut page = Text::new(alloc);
+    page.add("after a crash: ")?;
+    tell_inspection(alloc, &image, &mut page)?;
     let ran = run(
         rt,
         alloc,
         Fixture::sound(alloc, EXPORTS.to_vec(alloc)?, image),
     )?;
-    let mut page = Text::new(alloc);
-    page.add("after a crash: ")?;
     tell_end(&ran, &mut page)?;
     page.add("\n")?;
     page.add_replies(&ran.replies)?;
@@ -68,7 +96,7 @@ fn is_among(page: &Text, others: &[Text]) -> bool {
     false
 }
 
-/// What second runs on the images that a crash may leave tell, each that is another once.
+/// What is told of the images that a crash may leave, each that is another once.
 pub fn crashes<R: Threads + Wait + Sync>(
     rt: &R,
     alloc: Global,

@@ -1,7 +1,8 @@
 //! Tries the top call over disks, streams and a secure element in memory whose calls fail, two sessions that meet within
 //! calls, and the calls of a client. Standard input has the sections to try, and says how one is written; for each of their
-//! runs the program prints how that ended, its replies, what it left in the cells, and what a second run tells of each image
-//! that a crash may leave. Of a client's calls it prints what they leave of its buffers and of its budget.
+//! runs the program prints how that ended, its replies, what it left in the cells, and of each image that a crash may leave
+//! what an inspection finds and what a second run tells. Of a client's calls it prints what they leave of its buffers and of
+//! its budget.
 #![tactic(auto)]
 
 mod cells;

@@ -6,7 +6,6 @@ use crate::meeting::try_meeting;
 use crate::sections::{Section, Trial, range};
 use crate::texts::Text;
 use disk_face::Fails;
-use key_cells::inspect;
 use std::alloc::{AllocError, Global};
 use std::sync::Wait;
 use std::thread::Threads;
@@ -161,16 +160,6 @@ fn try_each<R: Threads + Wait + Sync>(
     Ok(())
 }
 
-// Prints how many keys an inspection of a store finds.
-fn tell_keys(alloc: Global, store: &[u8], page: &mut Text) -> Result<(), AllocError> {
-    let Ok(keys) = inspect(alloc, store) else {
-        return page.add("no keys are found\n");
-    };
-    page.add("keys that are found: ")?;
-    page.add_number(keys.len() as u64)?;
-    page.add("\n")
-}
-
 /// Does what a section says, and prints what comes of it.
 pub fn try_section<R: Threads + Wait + Sync>(
     rt: &R,
@@ -186,10 +175,6 @@ pub fn try_section<R: Threads + Wait + Sync>(
         Trial::Client => {
             tell_heading(section, &[], page)?;
             try_client(rt, alloc, &section.element, page)
-        }
-        Trial::LeftOver => {
-            tell_keys(alloc, &store_of(rt, alloc, section)?, page)?;
-            try_each(rt, alloc, section, page)
         }
         Trial::DiskListed => try_run(rt, alloc, section, 0, &section.numbers, page),
         _ => try_each(rt, alloc, section, page),
