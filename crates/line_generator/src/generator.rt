@@ -3,6 +3,7 @@ ghost use Rattle.std.specs.Prelude.{◌≡◌, ◌≤◌, ◌<◌, ◌+◌, ◌*
 ghost use Rattle.script_lang.specs.Prelude.{IsOfSession};
 ghost use Rattle.line_generator.specs.Generator.{rising_bytes, call, fields, import_fields, generator_call, generator_line, generator_lines};
 
+use alg_encoding::Alg;
 use key_attributes::KeyId;
 use psa_status::Memory;
 use script_lang::{
@@ -12,9 +13,9 @@ use script_lang::{
 use service_calls::Op;
 use std::alloc::Global;
 
-const CBC_NO_PADDING: u32 = 0x0440_4000;
+const CBC_NO_PADDING: Alg = Alg(0x0440_4000);
 
-const CMAC: u32 = 0x03c0_0200;
+const CMAC: Alg = Alg(0x03c0_0200);
 
 /// So many bytes, one up from the other, from a number on.
 fn counted(alloc: Global, first: u32, count: u32) -> Result<ByteList, Memory>
@@ -31,11 +32,11 @@ fn counted(alloc: Global, first: u32, count: u32) -> Result<ByteList, Memory>
 }
 
 /// The fields of a call with an algorithm and data.
-fn fields(alloc: Global, alg: u32, bytes: ByteList) -> Result<Fields, Memory>
-    ensures { IfOk result (λ read. read ≡ fields alg bytes) }
+fn fields(alloc: Global, alg: Alg, bytes: ByteList) -> Result<Fields, Memory>
+    ensures { IfOk result (λ read. read ≡ fields alg.0 bytes) }
 {
     match vec![in alloc;
-        (Field::Alg, FieldValue::Word(alg)),
+        (Field::Alg, FieldValue::Word(alg.0)),
         (Field::Data, FieldValue::Bytes(bytes)),
     ] {
         Ok(items) => Ok(Fields::of(items)),
@@ -50,7 +51,7 @@ fn import_fields(alloc: Global, bytes: ByteList) -> Result<Fields, Memory>
     let items = vec![in alloc;
         (Field::Type, FieldValue::Short(0x2400)),
         (Field::Usage, FieldValue::Word(0x101)),
-        (Field::Alg, FieldValue::Word(CBC_NO_PADDING)),
+        (Field::Alg, FieldValue::Word(CBC_NO_PADDING.0)),
         (Field::Data, FieldValue::Bytes(bytes)),
     ];
     match items {
