@@ -30,12 +30,10 @@ import time
 sys.path.insert(0, os.path.join(os.path.dirname(os.path.realpath(__file__)), "reference"))
 
 from program import USAGE, program_of, scratch
-from service import CELL_COUNT
-from store_file import CELL_LENGTH, HEADER
+from store_file import STORE_LENGTH
 
 SECONDS = 20  # at most, for what takes milliseconds
 RUNS, CREATIONS = 8, 15
-STORE_LENGTH = len(HEADER) + CELL_COUNT * CELL_LENGTH
 LOCKED = "is locked by another run"
 DENIED = "can't be opened: Permission denied (os error 13)"
 MISSING = "can't be opened: No such file or directory (os error 2)"

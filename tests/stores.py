@@ -7,6 +7,9 @@ Files that are refused: status 5, the line on standard error, nothing on standar
 byte. Whatever stands before the opening is found first, and leaves the file too: words, standard input, and the script.
 Closed cells may hold anything: they are zeros once the store was opened, and the keys of the open ones are there.
 
+Each single bit of a store's header turned over, and each of a cell with a key: the file is refused, and stays as it was, or
+all other keys are what they were. The reference says which, and what that cell's key then is.
+
 Files that can't be written past some length, since the system permits no larger ones: an opening that has to write there
 ends with status 6. A creation or destruction that has to is STORAGE_FAILURE; its key is then gone, and so it is with each
 further one while the first key's cell can't be closed. A run without that limit has the other keys again.
@@ -18,6 +21,7 @@ The status is 1 where the program answered otherwise.
 
 import functools
 import gzip
+import multiprocessing.pool
 import os
 import resource
 import signal
@@ -28,8 +32,9 @@ from dataclasses import replace
 sys.path.insert(0, os.path.join(os.path.dirname(os.path.realpath(__file__)), "reference"))
 
 from program import USAGE, program_of, scratch
-from service import AES_KEY, CELL_COUNT, HMAC_KEY, OF_THE_ELEMENT, PERSISTENT, Key
-from store_file import CELL_LENGTH, HEADER, OPEN, cell, image
+from runs import Line, Run, text_of
+from service import AES_KEY, CELL_COUNT, HMAC_KEY, OF_THE_ELEMENT, PERSISTENT, Key, Service
+from store_file import CELL_LENGTH, HEADER, KEY_AT, OPEN, RECORD_AT, cell, image, key_of, place_of
 
 RAW_DATA = 0x1001
 KEYS = [Key(PERSISTENT, place + 1, 0, RAW_DATA, 24, 1, (0, 0), bytes([place, 1, 2])) for place in range(6)]
@@ -37,7 +42,7 @@ GOOD = image(KEYS + [None] * (CELL_COUNT - len(KEYS)))
 DAMAGED, LAST = 3, CELL_COUNT - 1
 KEY = KEYS[DAMAGED]
 EXPORT = f"1 export #{KEY.identifier:x}\n"
-RECORD_AT, KEY_AT = 16, 52  # in a cell
+PARTS = 4  # so many runs at once, where there are many
 
 
 def with_bytes(whole, place, piece):
@@ -45,7 +50,7 @@ def with_bytes(whole, place, piece):
 
 
 def with_cell(place, bytes_of_cell):
-    return with_bytes(GOOD, len(HEADER) + place * CELL_LENGTH, bytes_of_cell)
+    return with_bytes(GOOD, place_of(place), bytes_of_cell)
 
 
 def no_stores():
@@ -142,6 +147,11 @@ FORMER = (
     ("export #3fffffff", "SUCCESS 000102030405060708090a0b0c0d0e0f1011121314151617"),
     ("cipher_encrypt #3fffffff alg=04404400 data=00112233445566778899aabbccddeeff", "SUCCESS dda97ca4864cdfe06eaf70a0ec0d7191"),
     ("cipher_encrypt #3fffffff alg=04c01000 data=", "NOT_PERMITTED"),
+    ("copy c #1 usage=700 alg=04c01000 alg2=04404000", "SUCCESS 40100000"),
+    ("attributes $c", "SUCCESS 00000000401000002400008000000700" + "04c01000"),
+    ("copy d #1 usage=700 alg=0 alg2=04c01000", "SUCCESS 40100001"),
+    ("cipher_encrypt $d alg=04c01000 data=", "NOT_PERMITTED"),
+    ("copy e #1 usage=700 alg=04404000", "INVALID_ARGUMENT"),
     (
         "mac_compute #2 alg=03800009 data=7768617420646f2079612077616e7420666f72206e6f7468696e673f",
         "SUCCESS 5bdcc146bf60754e6a042426089575c75a003f089d2739839dec58b964ec3843",
@@ -219,7 +229,7 @@ def try_refusals(trial):
 
     bad = bytes([OPEN]) * CELL_LENGTH
     trial.open("the last cell", with_cell(LAST, bad), refused(5, f"damaged cell {LAST}"))
-    trial.open("two cells", with_bytes(with_cell(LAST, bad), len(HEADER) + DAMAGED * CELL_LENGTH, bad), damaged)
+    trial.open("two cells", with_bytes(with_cell(LAST, bad), place_of(DAMAGED), bad), damaged)
     for name, content, of_opening in (
         ("a damaged cell", with_cell(DAMAGED, bad), damaged),
         ("no store", GOOD[:10], refused(5, "not a store")),
@@ -238,8 +248,57 @@ def try_openings(trial):
         trial.open(name, with_cell(DAMAGED, bytes_of_cell), (0, f"1.1 @0 {reply}\n", ""), after, script=script)
 
 
+def opened_with(bytes_of_cell):
+    """The keys of a store that has these bytes in the damaged cell, or the line that refuses it."""
+    if bytes_of_cell[0] != OPEN:
+        return [None if key is KEY else key for key in KEYS]
+    key = key_of(bytes_of_cell)
+    same = [place for place, other in enumerate(KEYS) if key and other is not KEY and other.identifier == key.identifier]
+    if key is None or same:
+        return f"damaged cell {max(DAMAGED, *same, 0)}"
+    return [key if other is KEY else other for other in KEYS]
+
+
+def told_of(keys):
+    """The lines that ask for the keys of a store, and for those of the good one, and the replies to them."""
+    run = Run(Service(keys + [None] * (CELL_COUNT - len(keys))))
+    for identifier in sorted({key.identifier for key in (*KEYS, *filter(None, keys))}):
+        for command in ("attributes", "export"):
+            run.make(Line(1, command, [("key", f"#{identifier:x}")], {}))
+    return text_of(run.lines), "".join(f"{reply}\n" for reply in run.replies())
+
+
+def try_bits(trial, places):
+    """Turns each bit of these places over; gives how many such files are opened."""
+    count = 0
+    for place, bit in ((place, bit) for place in places for bit in range(8)):
+        content = with_bytes(GOOD, place, bytes([GOOD[place] ^ 1 << bit]))
+        at = place_of(DAMAGED)
+        opened = "not a store" if place < len(HEADER) else opened_with(content[at : at + CELL_LENGTH])
+        name = f"bit {bit} of byte {place}"
+        if isinstance(opened, str):
+            trial.open(name, content, refused(5, opened))
+        else:
+            script, replies = told_of(opened)
+            trial.open(name, content, (0, replies, ""), with_cell(DAMAGED, cell(opened[DAMAGED])), script=script)
+            count += 1
+    return count
+
+
+def try_all_bits(program, folder):
+    """The same of all bits of the header and of a cell, by several at once; gives how many runs there were, and failures."""
+    in_cell = range(place_of(DAMAGED), place_of(DAMAGED + 1))
+    parts = [range(len(HEADER)), *(in_cell[part::PARTS] for part in range(PARTS))]
+    trials = [Trial(program, os.path.join(folder, f"store{number}")) for number in range(len(parts))]
+    with multiprocessing.pool.ThreadPool(PARTS) as pool:
+        opened = sum(pool.starmap(try_bits, zip(trials, parts)))
+    count = sum(trial.count for trial in trials)
+    print(f"stores: {count} files with a bit turned over, {opened} of them opened")
+    return count, any(trial.has_failed for trial in trials)
+
+
 def try_failing_writes(trial):
-    limit = len(HEADER) + DAMAGED * CELL_LENGTH
+    limit = place_of(DAMAGED)
     fault = refused(6, "disk fault")
     trial.open("a file that can't be extended", b"", fault, limit=limit)
     trial.open("a cell that can't be cleared", with_cell(LAST, b"\0\1"), fault, limit=limit)
@@ -250,8 +309,12 @@ def try_failing_writes(trial):
 
 def try_former_file(trial):
     with gzip.open(os.path.join(os.path.dirname(os.path.realpath(__file__)), "former.store.gz")) as file:
-        trial.put(file.read())
+        former = file.read()
+    trial.put(former)
     trial.answer("a file with one algorithm in each policy", FORMER)
+    with open(trial.path, "rb") as file:
+        if file.read() != former:
+            trial.fail("a file with one algorithm in each policy has changed")
 
 
 def main():
@@ -261,8 +324,10 @@ def main():
         try_openings(trial)
         try_failing_writes(trial)
         try_former_file(trial)
-    print(f"stores: {trial.count} runs, {'failed' if trial.has_failed else 'passed'}")
-    return 1 if trial.has_failed else 0
+        count, has_failed = try_all_bits(trial.program, folder)
+    has_failed |= trial.has_failed
+    print(f"stores: {trial.count + count} runs, {'failed' if has_failed else 'passed'}")
+    return 1 if has_failed else 0
 
 
 if __name__ == "__main__":

@@ -101,10 +101,19 @@ def by_rank(lines, printed):
     return [order[rank] for rank in range(len(due))]
 
 
-
 def replayed(lines, printed, service):
     """A run of a script's calls on a service in the order of the printed ranks."""
     run = Run(service)
     for line in by_rank(lines, printed):
         run.make(line)
     return run
+
+
+def run_with_changes(lines, service):
+    """A run of these lines in their order; and what stands in the store's cells at first and after each change of them."""
+    run, states = Run(service), [list(service.cells)]
+    for line in lines:
+        run.make(line)
+        if run.service.cells != states[-1]:
+            states.append(list(run.service.cells))
+    return run, states
