@@ -68,10 +68,8 @@ fn whole_tag(key: &AesKey, subkey: u128, first: u128, ad: &[u8], text: &[u8]) ->
     ensures { number_block result ≡ xor_bytes (aes_encrypt key.now (number_block first))
         (number_block (ghash_of subkey ad.now text.now)) }
 {
-    let mut mask = key.encrypt_number(first);
-    let tag = mask ^ hashing::ghash_of(subkey, ad, text);
-    clear(&mut mask);
-    tag
+    let hash = hashing::ghash_of(subkey, ad, text);
+    key.encrypt_number(first) ^ hash
 }
 
 // Overwrites a tag by the front of the whole one, which is then zeros.

@@ -1,6 +1,6 @@
 // PBKDF2 (RFC 8018 section 5.2).
 
-ghost use Rattle.std.specs.Prelude.{◌≡◌, ◌≤◌, ℕ, List, ◌++◌, drop, length, take};
+ghost use Rattle.std.specs.Prelude.{◌≡◌, ◌≤◌, ℕ, List, ◌++◌, drop, length, replicate, take};
 ghost use Rattle.std.specs.Int.{w32, to_be_bytes};
 ghost use Rattle.crypto_specs.specs.Prelude.{xor_bytes, hmac, pbkdf2_block};
 ghost use Rattle.hash_ops.specs.Hashes.{block_length, digest_length, hash_of};
@@ -42,9 +42,8 @@ fn short_turn(key: &ShortMessageKey, turn: &mut [u8; 64]) -> usize
         → take 32 turn.new ≡ hmac (hash_of Sha256) (block_length Sha256) k (take 32 turn.old) }
     ensures rest { drop 32 turn.new ≡ drop 32 turn.old }
 {
-    let mut code = key.code(turn.first_chunk::<32>().unwrap());
-    turn[..32].copy_from_slice(&code);
-    code.fill(0);
+    let front = turn.first_chunk_mut::<32>().unwrap();
+    *front = key.code(front);
     32
 }
 
@@ -135,5 +134,11 @@ pub fn pbkdf2_block(
     }
     key.wipe();
     turn.fill(0);
+    release(&turn);
     length
 }
+
+// What is let go of the last turn: zeros.
+fn release(turn: &[u8; 64])
+    requires { turn.now ≡ replicate 64 0 }
+{}

@@ -7,7 +7,7 @@ ghost use Rattle.script_lang.specs.Replies.{AreKept, ReplyLine, bytes_text, next
 
 use itoa::Buffer;
 use psa_status::{Memory, Status};
-use secret_bytes::let_go;
+use secret_bytes::let_zeros_go;
 use std::alloc::{AllocError, Global};
 
 /// So many bytes at a time are written in hex.
@@ -172,8 +172,9 @@ impl Drop for Replies {
             form: _,
             count: _,
             successes: _,
-            text,
+            mut text,
         } = self;
-        let_go(text);
+        text.fill(0);
+        let_zeros_go(text);
     }
 }

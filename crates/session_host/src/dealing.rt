@@ -13,7 +13,7 @@ use disk_face::Disk;
 use driver_dispatch::Devices;
 use psa_status::Memory;
 use script_lang::{Replies, ReplyForm};
-use secret_bytes::let_go;
+use secret_bytes::let_zeros_go;
 use std::alloc::Global;
 
 /// How many sessions there are.
@@ -50,12 +50,13 @@ pub fn free<D: Disk, A: Devices, C: Admission>(workers: Vec<Worker<D, A, C>>)
         let Worker {
             sessions,
             last: _last,
-            buffer,
+            mut buffer,
             whole: _whole,
             spacing: _spacing,
         } = worker;
         sessions.destroy_empty();
-        let_go(buffer);
+        buffer.fill(0);
+        let_zeros_go(buffer);
     }
     workers.destroy_empty();
 }

@@ -1,5 +1,5 @@
 // What is computed with the bytes of a key.
-ghost use Rattle.std.specs.Prelude.{◌≡◌, ◌≤◌, ◌%◌, ℕ, true, length, take};
+ghost use Rattle.std.specs.Prelude.{◌≡◌, ◌≤◌, ◌%◌, ℕ, true, length, replicate, take};
 ghost use Rattle.crypto_specs.specs.Prelude.{IsKey, aes_encrypt, cmac, hmac, ecb_encrypt};
 ghost use Rattle.hash_ops.specs.Hashes.{block_length, digest_length, hash_of};
 ghost use Rattle.store_model.specs.Prelude.{mac_of};
@@ -22,6 +22,16 @@ pub fn encipher_blocks(key: &[u8], blocks: &mut [u8])
     aes.wipe();
 }
 
+// Fills a tag with the front of a whole one, which is then zeros.
+fn move_front(whole: &mut [u8], tag: &mut [u8])
+    requires { length tag.old ≤ length whole.old }
+    ensures front { tag.new ≡ take (length tag.old) whole.old }
+    ensures wiped { whole.new ≡ replicate (length whole.old) 0 }
+{
+    tag.copy_from_slice(&whole[..tag.len()]);
+    whole.fill(0);
+}
+
 // Fills a tag with the front of a message's CMAC.
 fn fill_cmac(key: &[u8], message: &[u8], tag: &mut [u8])
     requires key { IsKey key.now }
@@ -31,8 +41,7 @@ fn fill_cmac(key: &[u8], message: &[u8], tag: &mut [u8])
     let mut aes = aes_key(key);
     let mut whole = cmac(&aes, message);
     aes.wipe();
-    tag.copy_from_slice(&whole[..tag.len()]);
-    whole.fill(0);
+    move_front(&mut whole, tag);
 }
 
 // Fills a tag with the front of a message's HMAC.
@@ -42,8 +51,7 @@ fn fill_hmac(which: Hash, key: &[u8], message: &[u8], tag: &mut [u8])
 {
     let mut whole = [0; 64];
     hmac(which, key, message, &mut whole);
-    tag.copy_from_slice(&whole[..tag.len()]);
-    whole.fill(0);
+    move_front(&mut whole, tag);
 }
 
 /// Fills a tag of the algorithm's length with the MAC of a message.
