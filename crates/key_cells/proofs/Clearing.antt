@@ -1,5 +1,5 @@
 -- How cells are made zeros that are left over from a crash.
-use Rattle.key_cells.proofs.Common.{Absent, Clearing, ClearsOn, Content, Doubtful, Elapses, Follows, Free, HoldsAround, HoldsWritten, IsSettled, LeavesWhatIsRead, List, None, Open, Option, Shows, Shut, CellState, Some, Sound, SoundBy, Spares, StandsForContents, Torn, Unsure, Within, ap, arith, body, cases_eq, cell_state, cells, closed, drop, ext_get_or, gate, get_or, get_or-map, get_or-set_other, get_or-set_same, is_some, length, length-map, part, place, refl, replicate, set, settled_state, settled_states, subst, sym, take, within_both, within_one, written, written_torn, zeros, ℕ, ⊎_elim, ◌+◌, ◌<◌, ◌∙◌, ◌≡◌}
+use Rattle.key_cells.proofs.Common.{Absent, Clearing, ClearsOn, Content, Doubtful, Elapses, Follows, Free, HoldsAround, HoldsWritten, IsSettled, LeavesWhatIsRead, List, None, Open, Option, Shows, Shut, CellState, Some, Sound, SoundBy, Spares, StandsForContents, Torn, Unsure, Within, ap, arith, body, cases_eq, cell_state, cell_count, closed, drop, ext_get_or, gate, get_or, get_or-map, get_or-set_other, get_or-set_same, is_some, length, length-map, part, place, refl, replicate, set, settled_state, settled_states, subst, sym, take, within_both, within_one, written, written_torn, zeros, ℕ, ⊎_elim, ◌+◌, ◌<◌, ◌∙◌, ◌≡◌}
 use Rattle.disk_face.specs.declared.Disk as Disk
 use Rattle.key_cells.proofs.Parts.{part_written}
 use Rattle.key_cells.proofs.Images.{sound_after, same_all, same_states}
@@ -23,7 +23,7 @@ unsure_freed : (content : Content) (g b g' b' : List ℕ) → Spares Unsure cont
 unsure_freed Absent g b g' b' s is are = (is, are)
 unsure_freed content g b g' b' s is are = s
 
-module _ (cell : ℕ) (lt : cell < cells) (states : List CellState) (contents : List Content) (p : ℕ) (at : p ≡ place cell) where
+module _ (cell : ℕ) (lt : cell < cell_count) (states : List CellState) (contents : List Content) (p : ℕ) (at : p ≡ place cell) where
   -- a torn write of the body of a shut cell, or of the whole of an unsure one
   pub torn_shut : cell_state states cell ≡ Shut → (before image : List ℕ) → Torn (p + 1) 1087 before image → SoundBy Spares states contents before → SoundBy Spares states contents image
   torn_shut is before image torn =
@@ -34,12 +34,12 @@ module _ (cell : ℕ) (lt : cell < cells) (states : List CellState) (contents : 
       sound_after Spares cell p 1088 states states contents contents before image (omega (arith, at)) (omega (arith, at)) torn (same_all cell states contents)
       (rw is (spares_unsure (get_or contents cell Absent) (gate cell before) (body cell before) (gate cell image) (body cell image) (rw is at (s.each cell lt)))) s
 
-  pub shut_cleared : length states ≡ 512 → cell_state states cell ≡ Shut → (read : List ℕ) → SoundBy Spares states contents read → SoundBy Spares (set states cell Free) contents (written read (p + 1) (replicate 1087 0))
+  pub shut_cleared : length states ≡ cell_count → cell_state states cell ≡ Shut → (read : List ℕ) → SoundBy Spares states contents read → SoundBy Spares (set states cell Free) contents (written read (p + 1) (replicate 1087 0))
   shut_cleared count is read =
       body_whole Spares cell lt states (set states cell Free) contents contents (same_states cell states contents Free) p at (replicate 1087 0) read refl
       (rw (is, get_or-set_same states cell Free Free (omega (arith, count))) (shut_freed (get_or contents cell Absent) (gate cell read) (body cell read)))
 
-  pub unsure_cleared : length states ≡ 512 → cell_state states cell ≡ Unsure → (read : List ℕ) → SoundBy Spares states contents read → SoundBy Spares (set states cell Free) contents (written read p (replicate 1088 0))
+  pub unsure_cleared : length states ≡ cell_count → cell_state states cell ≡ Unsure → (read : List ℕ) → SoundBy Spares states contents read → SoundBy Spares (set states cell Free) contents (written read p (replicate 1088 0))
   unsure_cleared count is read s =
       let image : List ℕ = written read p (replicate 1088 0) in
       let torn : Torn p 1088 read image = written_torn read (replicate 1088 0) p (omega (arith, s.size, at)) in
@@ -68,7 +68,7 @@ module _ {D : Type 0} (disks : Disk.Ghosts D) (old new : D) (cell p n : ℕ) (fi
   within = within_one (disks.moment old) (disks.moment new) (disks.left_since old) (disks.left_since new) (SoundBy Spares first contents) (disks.may_leave new) time each
 
   -- a write that was done
-  pub clearing_done : (bytes : List ℕ) → length states ≡ 512 → cell < cells → HoldsWritten (disks.contents old) p bytes (disks.contents new)
+  pub clearing_done : (bytes : List ℕ) → length states ≡ cell_count → cell < cell_count → HoldsWritten (disks.contents old) p bytes (disks.contents new)
       → ((read : List ℕ) → SoundBy Spares states contents read → SoundBy Spares (set states cell Free) contents (written read p bytes))
       → ClearsOn disks old new first (set states cell Free) contents
   clearing_done bytes count lt holds cleared = record {
@@ -83,7 +83,7 @@ module _ {D : Type 0} (disks : Disk.Ghosts D) (old new : D) (cell p n : ℕ) (fi
     within = within;
   }
     where
-      still : (other : ℕ) → other < cells → (state : CellState) → cell_state (set states cell Free) other ≡ state → (Free ≡ state → ⊥) → cell_state states other ≡ state
+      still : (other : ℕ) → other < cell_count → (state : CellState) → cell_state (set states cell Free) other ≡ state → (Free ≡ state → ⊥) → cell_state states other ≡ state
       still other less state is not_free =
           ⊎_elim
           (λ same. absurd (not_free (sym (get_or-set_same states cell Free Free (omega (arith, count))) ∙ subst (λ (k : ℕ). cell_state (set states cell Free) k ≡ state) same is)))
@@ -120,7 +120,7 @@ is_sure (Open id creation) (Doubtful bytes) g b same s = s
 is_sure (Open id creation) content g b same s = s
 is_sure state content g b same s = cc
 
-pub sure_sound : (states : List CellState) (contents : List Content) (image : List ℕ) → IsSettled cells states → SoundBy Spares states contents image → Sound states contents image
+pub sure_sound : (states : List CellState) (contents : List Content) (image : List ℕ) → IsSettled cell_count states → SoundBy Spares states contents image → Sound states contents image
 sure_sound states contents image settled s = record {
   size = s.size;
   header = s.header;
@@ -130,7 +130,7 @@ sure_sound states contents image settled s = record {
 pub settled_twice : (state : CellState) → settled_state state ≡ settled_state (settled_state state)
 settled_twice state = sym (settled_alike settled_state refl refl state)
 
-pub settled_settled : (states states' : List CellState) → length states ≡ 512 → states' ≡ settled_states states → IsSettled cells states'
+pub settled_settled : (states states' : List CellState) → length states ≡ cell_count → states' ≡ settled_states states → IsSettled cell_count states'
 settled_settled states states' count is cell lt =
     let at : cell_state states' cell ≡ settled_state (cell_state states cell) = ap (λ (l : List CellState). cell_state l cell) is ∙ get_or-map settled_state states cell Free Free (omega (arith, count)) in
     at ∙ (settled_twice (cell_state states cell) ∙ ap settled_state (sym at))
@@ -140,7 +140,7 @@ all_settled states settled = ext_get_or Free states (settled_states states) (sym
 
 module _ {D : Type 0} (disks : Disk.Ghosts D) where
   -- nothing was left over
-  pub clear_already : (disk : D) (states : List CellState) (contents : List Content) → length contents ≡ 512 → IsSettled cells states → Clearing disks disk states states contents → StandsForContents disks disk states contents
+  pub clear_already : (disk : D) (states : List CellState) (contents : List Content) → length contents ≡ cell_count → IsSettled cell_count states → Clearing disks disk states states contents → StandsForContents disks disk states contents
   clear_already disk states contents count settled s = record {
     tells = ap is_some s.is_told;
     count = count;
@@ -148,7 +148,7 @@ module _ {D : Type 0} (disks : Disk.Ghosts D) where
   }
 
   -- all was made sure of
-  pub clear_sure : (old new : D) (first states : List CellState) (contents : List Content) → length contents ≡ 512 → IsSettled cells states → Clearing disks old first states contents
+  pub clear_sure : (old new : D) (first states : List CellState) (contents : List Content) → length contents ≡ cell_count → IsSettled cell_count states → Clearing disks old first states contents
       → disks.contents new ≡ disks.contents old → LeavesWhatIsRead (disks.contents old) (disks.may_leave new) → StandsForContents disks new states contents
   clear_sure old new first states contents count settled s same durable = record {
     tells = ap is_some (same ∙ s.is_told);

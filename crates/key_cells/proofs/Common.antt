@@ -11,7 +11,7 @@ pub use Rattle.key_cells.specs.Contents.{Absent, cell_state, Content, content_at
 pub use Rattle.key_cells.specs.History.{AddsEntry, AddsEntryOf, AddsFailedCreation, CellEntry, Change, Created, CreationFailed, Destroyed, DestructionFailed, NotReached, Nothing, StandsForHistory, contents_after, changed, entry_done}
 pub use Rattle.key_cells.specs.Image.{HasNoOpenCell, IsDamaged, IsFirstDamaged, IsOpen, IsStoreFile, Opens, SparesStore}
 unfoldable pub use Rattle.key_cells.specs.Image.{identifier_in}
-pub use Rattle.key_cells.specs.Layout.{body, cells, closed, gate, opened_gate, part, place}
+pub use Rattle.key_cells.specs.Layout.{body, cell_count, closed, gate, opened_gate, part, place, store_size}
 unfoldable pub use Rattle.key_cells.specs.Layout.{header, zeros}
 pub use Rattle.key_cells.specs.Opening.{Clearing, ClearsOn, content_of, Finds, found_in, GivesBlock, GivesPart, HasOneEach, is_opened, IsBadCell, IsFoundIn, IsImageDirectory, IsNamed, IsNumbered, IsSettled, Reads, ReadsBelow, ReadsCell, ReadsKey, Spares, WithinSpares}
 unfoldable pub use Rattle.key_cells.specs.Opening.{contents_of}

@@ -1,17 +1,17 @@
 -- A destruction, of what its steps do: the cells in doubt are closed, and then the key's own.
-use Rattle.key_cells.proofs.Common.{Absent, ap, arith, cell_state, Cells, cells, CellState, Content, content_at, Doubtful, Free, get_or-map, get_or-set_same, is_open, KeepsContents, length, List, Moves, Present, refl, set, set-set, settled, settled_content, settled_state, settled_states, StandsForContents, StaysFree, true, Unsure, ℕ, ◌<◌, ◌∙◌, ◌≡◌}
+use Rattle.key_cells.proofs.Common.{Absent, ap, arith, cell_state, Cells, cell_count, CellState, Content, content_at, Doubtful, Free, get_or-map, get_or-set_same, is_open, KeepsContents, length, List, Moves, Present, refl, set, set-set, settled, settled_content, settled_state, settled_states, StandsForContents, StaysFree, true, Unsure, ℕ, ◌<◌, ◌∙◌, ◌≡◌}
 use Rattle.disk_face.specs.declared.Disk as Disk
 use Rattle.key_cells.proofs.Counts.{count_same}
 use Rattle.key_cells.proofs.Moves.{close_begins, close_done, doubt_after, fill_failed, moves_after_settled, moves_settled, still_open}
 use Rattle.key_cells.proofs.Free.{FreeToo, free_set, free_set_after, not_free_as, open_not_free, stays_free_both, stays_free_set}
 
-module _ {D : Type 0} (disks : Disk.Ghosts D) (cell : ℕ) (old mid : Cells D) (lt : cell < cells) (count : length old.states.items ≡ cells) (was : is_open (cell_state old.states.items cell) ≡ true)
+module _ {D : Type 0} (disks : Disk.Ghosts D) (cell : ℕ) (old mid : Cells D) (lt : cell < cell_count) (count : length old.states.items ≡ cell_count) (was : is_open (cell_state old.states.items cell) ≡ true)
     (free : StaysFree old.states.items mid.states.items) (alike : settled_states mid.states.items ≡ settled_states old.states.items) where
   abbrev states : List CellState
   states = mid.states.items
 
-  count_now : length states ≡ cells
-  count_now = count_same old.states.items states 512 alike count
+  count_now : length states ≡ cell_count
+  count_now = count_same old.states.items states cell_count alike count
 
   open_now : is_open (cell_state states cell) ≡ true
   open_now = still_open old.states.items states cell (omega (arith, count)) alike was
@@ -57,6 +57,6 @@ module _ {D : Type 0} (disks : Disk.Ghosts D) (cell : ℕ) (old mid : Cells D) (
           after (set (settled contents) cell Absent) (close_done disks cell mid.disk new.disk (set states cell Unsure) new.states.items states (settled contents) bytes lt settling.stands.count there shut too closing)
 
 -- the state of a cell that was unsure and is closed
-pub now_free : (states : List CellState) (cell : ℕ) → length states ≡ cells → cell < cells → set (set states cell Unsure) cell (settled_state (cell_state (set states cell Unsure) cell)) ≡ set states cell Free
+pub now_free : (states : List CellState) (cell : ℕ) → length states ≡ cell_count → cell < cell_count → set (set states cell Unsure) cell (settled_state (cell_state (set states cell Unsure) cell)) ≡ set states cell Free
 now_free states cell count lt =
     ap (λ (x : CellState). set (set states cell Unsure) cell (settled_state x)) (get_or-set_same states cell Unsure Free (omega (arith, count))) ∙ set-set states cell Unsure Free

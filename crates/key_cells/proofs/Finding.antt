@@ -1,5 +1,5 @@
 -- What the states are that an opening reads, one cell after the other.
-use Rattle.key_cells.proofs.Common.{[], ap, arith, body, Bool, cases_eq, cell_state, CellState, closed, cond, count_by, count_by_more_no, count_by_more_yes, creation_of_state, DamagedCell, drop, eq-eqb, eqb-true, false, Free, gate, get_or, get_or-set_other, get_or-set_same, get_or-take, GivesPart, has_id, HasNoKey, HasOneEach, HoldsId, HoldsNoKey, identifier_in, IfSome, inl, inr, is_open, IsBadCell, IsDamaged, IsNamed, IsNumbered, IsOpenFaultOf, IsPersistent, IsStoreFile, length, length-set, length-take, List, None, Open, opened_gate, Option, Reads, ReadsBelow, refl, set, Shut, Some, subst, sym, take, take-set-le, true, Unsure, ℕ, ⊎_elim, ◌*◌, ◌+◌, ◌<◌, ◌∙◌, ◌∷◌, ◌≡◌, ◌≢◌, ◌≤◌}
+use Rattle.key_cells.proofs.Common.{[], ap, arith, body, Bool, cases_eq, cell_state, CellState, closed, cond, count_by, count_by_more_no, count_by_more_yes, creation_of_state, DamagedCell, drop, eq-eqb, eqb-true, false, Free, gate, get_or, get_or-set_other, get_or-set_same, get_or-take, GivesPart, has_id, HasNoKey, HasOneEach, HoldsId, HoldsNoKey, identifier_in, IfSome, inl, inr, is_open, IsBadCell, IsDamaged, IsNamed, IsNumbered, IsOpenFaultOf, IsPersistent, IsStoreFile, length, length-set, length-take, List, None, Open, opened_gate, Option, Reads, ReadsBelow, refl, set, Shut, Some, subst, sym, take, take-set-le, true, Unsure, ℕ, ⊎_elim, ◌*◌, ◌+◌, ◌<◌, ◌∙◌, ◌∷◌, ◌≡◌, ◌≢◌, ◌≤◌, cell_count}
 use Rattle.key_cells.proofs.Bodies.{parts_of}
 use Rattle.key_cells.proofs.CellsRead.{gate_read, body_read}
 
@@ -104,7 +104,7 @@ not_damaged count states image reads one cell lt damaged =
     damaged.1
 
 -- the first damaged cell
-pub first_damaged : (told : Option (List ℕ)) (count : ℕ) (states : List CellState) (bytes : List ℕ) → count < 512 → length states ≡ 512 → IfSome told (λ image. IsStoreFile image) → IfSome told (λ image. ReadsBelow count states image)
+pub first_damaged : (told : Option (List ℕ)) (count : ℕ) (states : List CellState) (bytes : List ℕ) → count < cell_count → length states ≡ cell_count → IfSome told (λ image. IsStoreFile image) → IfSome told (λ image. ReadsBelow count states image)
     → HasOneEach count states → GivesPart told (64 + 1088 * count) 1088 bytes → IsBadCell bytes (take count states) → IfSome told (λ image. IsOpenFaultOf (DamagedCell count) image)
 first_damaged None count states bytes lt size store reads one gives bad = tt
 first_damaged (Some image) count states bytes lt size store reads one gives bad =

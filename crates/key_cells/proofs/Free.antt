@@ -1,14 +1,14 @@
-use Rattle.key_cells.proofs.Common.{Free, IsSure, List, CellState, StaysFree, ap, arith, cases_eq, cell_state, cells, get_or-map, get_or-set_other, is_open, length, set, settled_state, subst, sym, true, ℕ, ⊎_elim, ◌<◌, ◌∙◌, ◌≡◌}
+use Rattle.key_cells.proofs.Common.{Free, IsSure, List, CellState, StaysFree, ap, arith, cases_eq, cell_state, cell_count, get_or-map, get_or-set_other, is_open, length, set, settled_state, subst, sym, true, ℕ, ⊎_elim, ◌<◌, ◌∙◌, ◌≡◌}
 
 -- Which cells are free before calls, between them and after them.
 
 -- states that are free before two calls and after them are so between them
 abbrev pub FreeBetween : List CellState → List CellState → List CellState → Type 0
-FreeBetween states states' states'' = (cell : ℕ) → cell < cells → cell_state states cell ≡ Free → cell_state states'' cell ≡ Free → cell_state states' cell ≡ Free
+FreeBetween states states' states'' = (cell : ℕ) → cell < cell_count → cell_state states cell ≡ Free → cell_state states'' cell ≡ Free → cell_state states' cell ≡ Free
 
 -- states that are free before and after are so too where a call is told of others
 abbrev pub FreeToo : List CellState → List CellState → List CellState → List CellState → Type 0
-FreeToo states states' others others' = (cell : ℕ) → cell < cells → cell_state others cell ≡ Free → cell_state others' cell ≡ Free → (cell_state states cell ≡ Free) × (cell_state states' cell ≡ Free)
+FreeToo states states' others others' = (cell : ℕ) → cell < cell_count → cell_state others cell ≡ Free → cell_state others' cell ≡ Free → (cell_state states cell ≡ Free) × (cell_state states' cell ≡ Free)
 
 pub free_same : (states states' : List CellState) → FreeToo states states' states states'
 free_same states states' cell lt before after = (before, after)
@@ -48,6 +48,6 @@ open_not_free Free is free = cc
 open_not_free state is free = cc
 
 -- where no cell is in doubt, neither is one of a directory that is the same
-pub sure_still : (states now : List CellState) (cell : ℕ) → length states ≡ 512 → cell < 512 → now ≡ states → IsSure states → settled_state (cell_state now cell) ≡ cell_state now cell
+pub sure_still : (states now : List CellState) (cell : ℕ) → length states ≡ cell_count → cell < cell_count → now ≡ states → IsSure states → settled_state (cell_state now cell) ≡ cell_state now cell
 sure_still states now cell sized lt same sure =
     rw same (sym (get_or-map settled_state states cell Free Free (omega (arith, sized, lt))) ∙ ap (λ (l : List CellState). cell_state l cell) sure)

@@ -1,5 +1,5 @@
 -- How the parts of an opening follow one another.
-use Rattle.key_cells.proofs.Common.{[], Absent, ap, arith, body, Bool, Calm, cell_state, cells, CellState, Clearing, closed, cond, Content, content_of, contents_of, count_by, creation_of_state, Disk, drop-replicate, Elapses, false, Finds, found_in, Free, gate, get_or, get_or-map, get_or-replicate, has_id, HasNoOpenCell, HasOneEach, HoldsSinceSync, IfSome, inl, inr, is_open, is_opened, is_some, IsBlankSinceSync, IsDisk, IsFoundIn, IsImageDirectory, IsNamed, IsNumbered, IsOpen, IsOpened, IsOpenFaultOf, IsOpeningRefused, IsRefusal, IsStoreFile, LeavesWhatIsRead, length, length-map, List, map, nil_from_length, None, NoNewImage, NotAStore, Open, opened_gate, Option, place, Present, Reads, ReadsBelow, refl, replicate, settled_state, settled_states, Shut, Some, SoundBy, Spares, SparesSinceSync, SparesStore, StandsForContents, StillTells, subst, sum_by-cons, sym, take, take-map, true, Unsure, Within, within_both, within_none, within_one, WithinSpares, WritesItsOwn, zeros, ℕ, ⊎_elim, ◌+◌, ◌-◌, ◌<◌, ◌∙◌, ◌∷◌, ◌≡◌, ◌≢◌, ◌≤◌, ◌⊎◌}
+use Rattle.key_cells.proofs.Common.{[], Absent, ap, arith, body, Bool, Calm, cell_state, cell_count, CellState, Clearing, closed, cond, Content, content_of, contents_of, count_by, creation_of_state, Disk, drop-replicate, Elapses, false, Finds, found_in, Free, gate, get_or, get_or-map, get_or-replicate, has_id, HasNoOpenCell, HasOneEach, HoldsSinceSync, IfSome, inl, inr, is_open, is_opened, is_some, IsBlankSinceSync, IsDisk, IsFoundIn, IsImageDirectory, IsNamed, IsNumbered, IsOpen, IsOpened, IsOpenFaultOf, IsOpeningRefused, IsRefusal, IsStoreFile, LeavesWhatIsRead, length, length-map, List, map, nil_from_length, None, NoNewImage, NotAStore, Open, opened_gate, Option, place, Present, Reads, ReadsBelow, refl, replicate, settled_state, settled_states, Shut, Some, SoundBy, Spares, SparesSinceSync, SparesStore, StandsForContents, StillTells, subst, sum_by-cons, sym, take, take-map, true, Unsure, Within, within_both, within_none, within_one, WithinSpares, WritesItsOwn, zeros, ℕ, ⊎_elim, ◌+◌, ◌-◌, ◌<◌, ◌∙◌, ◌∷◌, ◌≡◌, ◌≢◌, ◌≤◌, ◌⊎◌, store_size}
 use Rattle.disk_face.specs.declared.Disk as Disk
 use Rattle.std.proofs.Common.{ne_eqb, suc, zero}
 unfoldable use Rattle.key_cells.specs.Layout.{blank_store}
@@ -140,7 +140,7 @@ reads_spares (Open id creation) gate body r = subst (λ (g : List ℕ). Spares (
 reads_spares Shut gate body r = subst (λ (g : List ℕ). Spares Shut (content_of g body) g body) (sym r.0) refl
 reads_spares Unsure gate body r = subst (λ (c : Content). Spares Unsure c gate body) (sym (not_opened gate body r.0)) tt
 
-pub reads_sound : (states : List CellState) (image : List ℕ) → IsStoreFile image → ReadsBelow cells states image → SoundBy Spares states (contents_of image) image
+pub reads_sound : (states : List CellState) (image : List ℕ) → IsStoreFile image → ReadsBelow cell_count states image → SoundBy Spares states (contents_of image) image
 reads_sound states image store reads = record {
   size = store.size;
   header = store.header;
@@ -149,7 +149,7 @@ reads_sound states image store reads = record {
 
 -- what is spared is each open cell, byte for byte
 pub spares_open : (states : List CellState) (image other : List ℕ) → SoundBy Spares states (contents_of image) other
-    → (cell : ℕ) → cell < cells → IsOpen cell image → IsOpen cell other × (body cell other ≡ body cell image)
+    → (cell : ℕ) → cell < cell_count → IsOpen cell image → IsOpen cell other × (body cell other ≡ body cell image)
 spares_open states image other s cell lt is =
     let there : get_or (contents_of image) cell Absent ≡ Present (body cell image) = content_there cell image lt ∙ ap (λ (g : List ℕ). content_of g (body cell image)) is in
     by (cell_state states cell) (gate cell other) (body cell other) (subst (λ (c : Content). Spares (cell_state states cell) c (gate cell other) (body cell other)) there (s.each cell lt))
@@ -171,7 +171,7 @@ zeros_still (Open id creation) g' b' r s = absurd s
 zeros_still Shut g' b' r s = absurd (r.1 refl)
 zeros_still Unsure g' b' r s = absurd (r.1 refl)
 
-spares_store : (states : List CellState) (image other : List ℕ) → ReadsBelow cells states image → SoundBy Spares states (contents_of image) other → SparesStore image other
+spares_store : (states : List CellState) (image other : List ℕ) → ReadsBelow cell_count states image → SoundBy Spares states (contents_of image) other → SparesStore image other
 spares_store states image other reads s = record {
   store = record { size = s.size; header = s.header };
   open_cells = spares_open states image other s;
@@ -179,10 +179,10 @@ spares_store states image other reads s = record {
   zeros = λ cell lt are. zeros_still (cell_state states cell) (gate cell other) (body cell other) (subst (λ (b : List ℕ). Reads (cell_state states cell) closed b) are.1 (read cell lt are.0)) (spared cell lt are.0);
 }
   where
-    read : (cell : ℕ) → cell < cells → gate cell image ≡ closed → Reads (cell_state states cell) closed (body cell image)
+    read : (cell : ℕ) → cell < cell_count → gate cell image ≡ closed → Reads (cell_state states cell) closed (body cell image)
     read cell lt is = subst (λ (g : List ℕ). Reads (cell_state states cell) g (body cell image)) is (reads cell lt)
 
-    spared : (cell : ℕ) → cell < cells → gate cell image ≡ closed → Spares (cell_state states cell) Absent (gate cell other) (body cell other)
+    spared : (cell : ℕ) → cell < cell_count → gate cell image ≡ closed → Spares (cell_state states cell) Absent (gate cell other) (body cell other)
     spared cell lt is = subst (λ (c : Content). Spares (cell_state states cell) c (gate cell other) (body cell other)) (content_there cell image lt ∙ ap (λ (g : List ℕ). content_of g (body cell image)) is) (s.each cell lt)
 
 -- the directory once no cell is left over
@@ -201,20 +201,20 @@ settled_count (state ∷ states) =
     ∙ (ap (λ (n : ℕ). key_of state + n) (settled_count states)
     ∙ sym (sum_by-cons key_of state states)))
 
-module _ (states states' : List CellState) (count : length states ≡ 512) (is : states' ≡ settled_states states) where
-  at : (cell : ℕ) → cell < cells → cell_state states' cell ≡ settled_state (cell_state states cell)
+module _ (states states' : List CellState) (count : length states ≡ cell_count) (is : states' ≡ settled_states states) where
+  at : (cell : ℕ) → cell < cell_count → cell_state states' cell ≡ settled_state (cell_state states cell)
   at cell lt = ap (λ (l : List CellState). cell_state l cell) is ∙ get_or-map settled_state states cell Free Free (omega (arith, count))
 
-  pub settled_one : HasOneEach cells states → HasOneEach cells states'
+  pub settled_one : HasOneEach cell_count states → HasOneEach cell_count states'
   settled_one one id cell other lt lt' has has' =
       one id cell other lt lt'
       (sym (settled_has id (cell_state states cell)) ∙ (ap (has_id id) (sym (at cell lt)) ∙ has))
       (sym (settled_has id (cell_state states other)) ∙ (ap (has_id id) (sym (at other lt')) ∙ has'))
 
-  pub settled_named : IsNamed cells states → IsNamed cells states'
+  pub settled_named : IsNamed cell_count states → IsNamed cell_count states'
   settled_named named id cell lt has = named id cell lt (sym (settled_has id (cell_state states cell)) ∙ (ap (has_id id) (sym (at cell lt)) ∙ has))
 
-  pub settled_numbered : IsNumbered cells states → IsNumbered cells states'
+  pub settled_numbered : IsNumbered cell_count states → IsNumbered cell_count states'
   settled_numbered numbered cell lt open_now =
       ap creation_of_state (at cell lt) ∙ (settled_alike creation_of_state refl refl (cell_state states cell)
       ∙ (numbered cell lt (sym (settled_open (cell_state states cell)) ∙ (ap is_open (sym (at cell lt)) ∙ open_now))
@@ -226,9 +226,9 @@ module _ (states states' : List CellState) (count : length states ≡ 512) (is :
   finds Unsure g b r = r.0
   finds (Open id creation) g b r = r
 
-  pub settled_directory : (image : List ℕ) → IsStoreFile image → ReadsBelow cells states image → HasOneEach cells states → IsImageDirectory states' image
+  pub settled_directory : (image : List ℕ) → IsStoreFile image → ReadsBelow cell_count states image → HasOneEach cell_count states → IsImageDirectory states' image
   settled_directory image store reads one = record {
-    opens = record { store = store; sound = λ cell lt damaged. not_damaged cells states image reads one cell lt damaged };
+    opens = record { store = store; sound = λ cell lt damaged. not_damaged cell_count states image reads one cell lt damaged };
     each = λ cell lt. subst (λ (s : CellState). Finds s (gate cell image) (body cell image)) (sym (at cell lt)) (finds (cell_state states cell) (gate cell image) (body cell image) (reads cell lt));
   }
 
@@ -277,20 +277,20 @@ of_directory (Some []) states h = absurd (omega (arith, h.opens.store.size))
 of_directory (Some (byte ∷ rest)) states h = h
 
 -- no state of a new store has a key
-pub none_has : (f : CellState → Bool) (cell : ℕ) (states : List CellState) → f Free ≡ false → states ≡ replicate 512 Free → cell < cells → f (cell_state states cell) ≡ true → ⊥
+pub none_has : (f : CellState → Bool) (cell : ℕ) (states : List CellState) → f Free ≡ false → states ≡ replicate cell_count Free → cell < cell_count → f (cell_state states cell) ≡ true → ⊥
 none_has f cell states none are lt has =
-    let clash : false ≡ true = sym (ap f (ap (λ (l : List CellState). cell_state l cell) are ∙ get_or-replicate 512 cell Free Free lt) ∙ none) ∙ has in
+    let clash : false ≡ true = sym (ap f (ap (λ (l : List CellState). cell_state l cell) are ∙ get_or-replicate cell_count cell Free Free lt) ∙ none) ∙ has in
     cc
 
-module _ {D : Type 0} (disks : Disk.Ghosts D) (disk mid : D) (states : List CellState) (calm : Calm disks disk mid) (durable : LeavesWhatIsRead (disks.contents disk) (disks.may_leave disk)) (store : IfSome (disks.contents disk) (λ image. IsStoreFile image)) (reads : IfSome (disks.contents disk) (λ image. ReadsBelow cells states image)) where
+module _ {D : Type 0} (disks : Disk.Ghosts D) (disk mid : D) (states : List CellState) (calm : Calm disks disk mid) (durable : LeavesWhatIsRead (disks.contents disk) (disks.may_leave disk)) (store : IfSome (disks.contents disk) (λ image. IsStoreFile image)) (reads : IfSome (disks.contents disk) (λ image. ReadsBelow cell_count states image)) where
   only : (image : List ℕ) → disks.contents disk ≡ Some image → LeavesWhatIsRead (Some image) (disks.may_leave disk)
   only image is = subst (λ (o : Option (List ℕ)). LeavesWhatIsRead o (disks.may_leave disk)) is durable
 
   here : (image : List ℕ) → disks.contents disk ≡ Some image → IsStoreFile image
   here image is = subst (λ (o : Option (List ℕ)). IfSome o (λ image. IsStoreFile image)) is store
 
-  read : (image : List ℕ) → disks.contents disk ≡ Some image → ReadsBelow cells states image
-  read image is = subst (λ (o : Option (List ℕ)). IfSome o (λ image. ReadsBelow cells states image)) is reads
+  read : (image : List ℕ) → disks.contents disk ≡ Some image → ReadsBelow cell_count states image
+  read image is = subst (λ (o : Option (List ℕ)). IfSome o (λ image. ReadsBelow cell_count states image)) is reads
 
   -- what was read, before any cell that is left over is cleared
   read_begins : (image : List ℕ) → disks.contents disk ≡ Some image → Clearing disks mid states states (contents_of image)
@@ -325,8 +325,8 @@ module _ {D : Type 0} (disks : Disk.Ghosts D) (disk mid : D) (states : List Cell
       since_sync disks disk disk new image (SparesStore image) (SparesStore image) is (only image is) (omega arith)
       (read_within new (SparesStore image) within image is (λ other left. subst (SparesStore image) (sym (only image is other left)) itself) (λ other h. h)) only_now itself (λ other h. h)
 
-  pub read_opened : (new : D) (states' : List CellState) → IsNow → length states ≡ 512 → states' ≡ settled_states states → HasOneEach cells states → IsNumbered cells states → IsNamed cells states → StillTells (disks.contents mid) (disks.contents new)
-      → ((contents : List Content) → length contents ≡ 512 → Clearing disks mid states states contents → StandsForContents disks new states' contents) → ClearsWithin new
+  pub read_opened : (new : D) (states' : List CellState) → IsNow → length states ≡ cell_count → states' ≡ settled_states states → HasOneEach cell_count states → IsNumbered cell_count states → IsNamed cell_count states → StillTells (disks.contents mid) (disks.contents new)
+      → ((contents : List Content) → length contents ≡ cell_count → Clearing disks mid states states contents → StandsForContents disks new states' contents) → ClearsWithin new
       → IsOpened disks disk new states'
   read_opened new states' only_now count is one numbered named tells stands within = record {
     sized = ap length is ∙ (length-map states settled_state ∙ count);
@@ -374,6 +374,6 @@ told_nothing None = tt
 told_nothing (Some image) = tt
 
 -- a length that is neither 0 nor a store's
-pub no_store_of : (o : Option (List ℕ)) (size : ℕ) → (size ≡ 0 → ⊥) → (size ≡ 557120 → ⊥) → IfSome o (λ image. length image ≡ size) → IfSome o (λ image. IsOpenFaultOf NotAStore image)
+pub no_store_of : (o : Option (List ℕ)) (size : ℕ) → (size ≡ 0 → ⊥) → (size ≡ store_size → ⊥) → IfSome o (λ image. length image ≡ size) → IfSome o (λ image. IsOpenFaultOf NotAStore image)
 no_store_of None size some other measured = tt
 no_store_of (Some image) size some other measured = record { some = λ none. some (sym measured ∙ none); other = λ store. other (sym measured ∙ store.size) }

@@ -9,7 +9,7 @@ use Rattle.key_cells.specs.declared.cells.Cells.{Cells}
 use Rattle.key_cells.specs.Contents.{Content, Absent, Present, Doubtful, Sound, SoundBy, StandsForContents, Moves, MovesEither, CreationFailed, settled, content_at, cell_state, has_id}
 use Rattle.key_cells.specs.Opening.{Clearing, ClearsOn, Spares}
 use Rattle.key_cells.specs.Body.{HoldsKey, HoldsId}
-use Rattle.key_cells.specs.Layout.{cells}
+use Rattle.key_cells.specs.Layout.{cell_count}
 
 module _ {D : Type 0} (disks : Disk.Ghosts D) where
   -- the disk and the directory of the cells stand for these contents
@@ -76,7 +76,7 @@ module _ {D : Type 0} (disks : Disk.Ghosts D) where
 
     -- a write was made sure of, or failed: it leads on where what is torn of it shows what the directory says
     abbrev pub Writes : ℕ → List ℕ → List CellState → Type 0
-    Writes place bytes states = (from to : List Content) → length to ≡ cells → StandFor old from → TearsSafely old from place bytes →
+    Writes place bytes states = (from to : List Content) → length to ≡ cell_count → StandFor old from → TearsSafely old from place bytes →
         ((read : List ℕ) → Sound old.states.items from read → Sound states to (written read place bytes)) →
         Moves disks old.disk new.disk old.states.items new.states.items from to
 

@@ -2,7 +2,7 @@
 use Rattle.std.specs.Prelude.{◌≡◌, ◌≢◌, ◌⊎◌, ℕ, ◌<◌, List, length, take, drop}
 use Rattle.std.specs.Int.{w32, from_le_bytes}
 use Rattle.key_attributes.specs.declared.Attributes.{Attributes}
-use Rattle.key_cells.specs.Layout.{cells, store_size, header_size, part, gate, body, opened_gate, closed, header}
+use Rattle.key_cells.specs.Layout.{cell_count, store_size, header_size, part, gate, body, opened_gate, closed, header}
 use Rattle.key_cells.specs.Contents.{HasZeros}
 use Rattle.key_cells.specs.Body.{HoldsKey, HoldsNoKey}
 
@@ -26,7 +26,7 @@ IsDamaged image cell = IsOpen cell image × (HoldsNoKey (body cell image)
 -- an image that can be opened
 pub record Opens (image : List ℕ) : Type 0 where
   pub store : IsStoreFile image
-  pub sound : (cell : ℕ) → cell < cells → IsDamaged image cell → ⊥
+  pub sound : (cell : ℕ) → cell < cell_count → IsDamaged image cell → ⊥
 
 -- one that can't: it is no store, or its first damaged cell is this one
 pub record IsNoStore (image : List ℕ) : Type 0 where
@@ -35,22 +35,22 @@ pub record IsNoStore (image : List ℕ) : Type 0 where
 
 pub record IsFirstDamaged (image : List ℕ) (cell : ℕ) : Type 0 where
   pub store : IsStoreFile image
-  pub within : cell < cells
+  pub within : cell < cell_count
   pub here : IsDamaged image cell
   pub before : (other : ℕ) → other < cell → IsDamaged image other → ⊥
 
 -- an image has this key in some open cell
 abbrev pub HasKey : Attributes → List ℕ → List ℕ → Type 0
-HasKey a key image = (cell : ℕ) × (cell < cells) × IsOpen cell image × HoldsKey a key (body cell image)
+HasKey a key image = (cell : ℕ) × (cell < cell_count) × IsOpen cell image × HoldsKey a key (body cell image)
 
 -- no cell of an image is open
 abbrev pub HasNoOpenCell : List ℕ → Type 0
-HasNoOpenCell image = (cell : ℕ) → cell < cells → IsOpen cell image → ⊥
+HasNoOpenCell image = (cell : ℕ) → cell < cell_count → IsOpen cell image → ⊥
 
 -- Another image is a store with each open cell of this one, byte for byte. A cell that 0 closes stays closed by it, and
 -- one that is all zeros stays so.
 pub record SparesStore (image other : List ℕ) : Type 0 where
   pub store : IsStoreFile other
-  pub open_cells : (cell : ℕ) → cell < cells → IsOpen cell image → IsOpen cell other × (body cell other ≡ body cell image)
-  pub shut : (cell : ℕ) → cell < cells → gate cell image ≡ closed → gate cell other ≡ closed
-  pub zeros : (cell : ℕ) → cell < cells → HasZeros cell image → HasZeros cell other
+  pub open_cells : (cell : ℕ) → cell < cell_count → IsOpen cell image → IsOpen cell other × (body cell other ≡ body cell image)
+  pub shut : (cell : ℕ) → cell < cell_count → gate cell image ≡ closed → gate cell other ≡ closed
+  pub zeros : (cell : ℕ) → cell < cell_count → HasZeros cell image → HasZeros cell other

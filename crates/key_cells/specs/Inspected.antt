@@ -6,7 +6,7 @@ use Rattle.key_attributes.specs.declared.Attributes.{Attributes}
 use Rattle.key_cells.specs.declared.inspecting.FoundKey.{FoundKey}
 use Rattle.key_cells.specs.declared.inspecting.InspectFault.{InspectFault}
 use Rattle.key_cells.specs.declared.inspecting.InspectFault.TheVariants.{NotAStore, DamagedCell, Memory}
-use Rattle.key_cells.specs.Layout.{cells, gate, body}
+use Rattle.key_cells.specs.Layout.{cell_count, gate, body}
 use Rattle.key_cells.specs.Body.{HoldsKey}
 use Rattle.key_cells.specs.Image.{IsOpen, IsStoreFile, IsFirstDamaged}
 use Rattle.key_cells.specs.Opening.{is_opened}
@@ -27,7 +27,7 @@ pub record AreFirstKeys (count : ℕ) (keys : List FoundKey) (image : List ℕ) 
 
 -- all keys of an image, in the order of its cells
 abbrev pub AreKeysOf : List FoundKey → List ℕ → Type 0
-AreKeysOf keys image = AreFirstKeys cells keys image
+AreKeysOf keys image = AreFirstKeys cell_count keys image
 
 -- what an image is refused for: it is no store, or its first damaged cell is this one
 abbrev pub IsInspectFaultOf : InspectFault → List ℕ → Type 0

@@ -6,7 +6,7 @@ use Rattle.disk_face.specs.Disk.{NoNewImage, LeavesWhatIsRead, StillTells}
 use Rattle.disk_face.specs.Moments.{Within}
 use Rattle.key_cells.specs.declared.state.CellState.{CellState}
 use Rattle.key_cells.specs.declared.reading.OpenFault.{OpenFault}
-use Rattle.key_cells.specs.Layout.{blank_store, cells}
+use Rattle.key_cells.specs.Layout.{blank_store, cell_count}
 use Rattle.key_cells.specs.Contents.{StandsForContents}
 use Rattle.key_cells.specs.Image.{HasNoOpenCell, IsStoreFile, SparesStore}
 use Rattle.key_cells.specs.Causes.{IsOpenFaultOf, IsDisk, IsRefusal}
@@ -48,10 +48,10 @@ WritesItsOwn disks old new image =
 -- image within the opening has each open cell byte for byte, or might have been left before the opening, and since its
 -- first sync each has them; of a new file no image has an open cell since its zeros were made sure of.
 pub record IsOpened {D : Type 0} (disks : Disk.Ghosts D) (old new : D) (states : List CellState) : Type 0 where
-  pub sized : length states ≡ cells
-  pub one : HasOneEach cells states
-  pub numbered : IsNumbered cells states
-  pub named : IsNamed cells states
+  pub sized : length states ≡ cell_count
+  pub one : HasOneEach cell_count states
+  pub numbered : IsNumbered cell_count states
+  pub named : IsNamed cell_count states
   pub tells : StillTells (disks.contents old) (disks.contents new)
   pub found : IfSome (disks.contents old) (λ image. IsFoundIn image states)
   pub stands : IfSome (disks.contents old) (λ image. StandsForContents disks new states (found_in image))

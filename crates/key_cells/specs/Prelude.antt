@@ -1,5 +1,5 @@
 -- The words of this crate that others cite, a line or two for each file that says them.
-pub use Rattle.key_cells.specs.Layout.{body, closed, gate, opened_gate, place}
+pub use Rattle.key_cells.specs.Layout.{body, cell_count, closed, gate, opened_gate, place, store_size}
 unfoldable pub use Rattle.key_cells.specs.Layout.{zeros}
 pub use Rattle.key_record.specs.Record.{FitsRecord}
 pub use Rattle.key_cells.specs.Body.{HoldsId, HoldsKey, IsKeyOf, IsPersistent}

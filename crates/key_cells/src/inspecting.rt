@@ -1,14 +1,14 @@
 // The keys of an image of a store file, without a disk.
 ghost use Rattle.std.specs.Prelude.{◌≡◌, ◌≤◌, ◌<◌, ◌↔◌, ◌⊎◌, ◌+◌, ◌*◌, List, ℕ, length, IfOk, IfErr, OnOk, IsErrOf, IsTrue};
 ghost use Rattle.key_cells.specs.Image.{IsStoreFile, Opens, IsFirstDamaged};
-ghost use Rattle.key_cells.specs.Layout.{part};
+ghost use Rattle.key_cells.specs.Layout.{part, store_size};
 ghost use Rattle.key_cells.specs.Opening.{ReadsKey};
 ghost use Rattle.key_cells.specs.Inspected.{AreKeysOf, IsInspectFaultOf, KeepsKey};
 ghost use Rattle.key_cells.specs.declared.inspecting.InspectFault.TheVariants.{DamagedCell};
 ghost use Rattle.secret_bytes.specs.Buffer.{bytes_of};
 
 use crate::CellState;
-use crate::cells::{CELLS, place};
+use crate::cells::{CELLS, STORE_SIZE, place};
 use crate::reading::{CellRead, cell_at, decode, is_header};
 use key_attributes::Attributes;
 use psa_status::Memory;
@@ -44,12 +44,12 @@ impl From<Memory> for InspectFault {
 fn is_store(image: &[u8]) -> bool
     ensures { IsTrue result ↔ IsStoreFile image.now }
 {
-    image.len() == 557120 && is_header(&head_of(image))
+    image.len() as u64 == STORE_SIZE && is_header(&head_of(image))
 }
 
 // Its header.
 fn head_of(image: &[u8]) -> [u8; 64]
-    requires { length image.now ≡ 557120 }
+    requires { length image.now ≡ store_size }
     ensures { result ≡ part 0 64 image.now }
 {
     let mut head = [0; 64];
@@ -114,7 +114,7 @@ fn read_keys(alloc: Global, image: &[u8]) -> Result<Vec<FoundKey>, InspectFault>
     ensures fault { IfErr result (λ fault. IsInspectFaultOf fault image.now) }
     ensures store { IsErrOf result InspectFault.NotAStore → ⊥ }
 {
-    let mut states = match vec![in alloc; CellState::Free; 512] {
+    let mut states = match vec![in alloc; CellState::Free; CELLS] {
         Ok(states) => states,
         Err(_) => return Err(InspectFault::Memory),
     };

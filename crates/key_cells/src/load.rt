@@ -1,5 +1,6 @@
 // How the key of a cell is read.
 ghost use Rattle.std.specs.Prelude.{◌≡◌, ◌<◌, ◌≤◌, true, List, ℕ, length, IsErrOf, OnErr, IfOk};
+ghost use Rattle.key_cells.specs.Layout.{cell_count, store_size};
 ghost use Rattle.psa_status.specs.Causes.{Rose};
 ghost use Rattle.key_cells.specs.Contents.{KeepsContents, cell_state, is_open, has_id};
 ghost use Rattle.key_cells.specs.Body.{IsKeyOf};
@@ -20,11 +21,11 @@ impl<D: Disk> Cells<D> {
     /// The attributes of a key, and its bytes, which come into the buffer. After a refusal the buffer is clear. `Disk`
     /// only where the disk's faults rose, `Corrupt` only where the cell is read otherwise than it was written.
     pub fn load(&mut self, cell: usize, out: &mut Secret) -> Result<Attributes, CellFault>
-        requires size { D.size self.old.disk ≡ 557120 }
-        requires states { length self.old.states.items ≡ 512 }
-        requires within { cell < 512 }
+        requires size { D.size self.old.disk ≡ store_size }
+        requires states { length self.old.states.items ≡ cell_count }
+        requires within { cell < cell_count }
         requires open { is_open (cell_state self.old.states.items cell) ≡ true }
-        ensures size { D.size self.new.disk ≡ 557120 }
+        ensures size { D.size self.new.disk ≡ store_size }
         ensures states { self.new.states ≡ self.old.states }
         ensures same { D.contents self.new.disk ≡ D.contents self.old.disk }
         ensures calm { Calm D.Disk self.old.disk self.new.disk }
@@ -59,10 +60,10 @@ impl<D: Disk> Cells<D> {
         room: &mut [u8; 1088],
         out: &mut Secret,
     ) -> Result<Attributes, CellFault>
-        requires size { D.size self.old.disk ≡ 557120 }
-        requires states { length self.old.states.items ≡ 512 }
-        requires within { cell < 512 }
-        ensures size { D.size self.new.disk ≡ 557120 }
+        requires size { D.size self.old.disk ≡ store_size }
+        requires states { length self.old.states.items ≡ cell_count }
+        requires within { cell < cell_count }
+        ensures size { D.size self.new.disk ≡ store_size }
         ensures states { self.new.states ≡ self.old.states }
         ensures same { D.contents self.new.disk ≡ D.contents self.old.disk }
         ensures calm { Calm D.Disk self.old.disk self.new.disk }

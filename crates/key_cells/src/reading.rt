@@ -7,7 +7,7 @@ ghost use Rattle.key_cells.specs.Image.{IsStoreFile};
 ghost use Rattle.key_cells.specs.Opening.{GivesBlock, GivesPart, IsBadCell, Reads, ReadsCell, ReadsKey, ReadsBelow, HasOneEach, IsNumbered, IsNamed};
 ghost use Rattle.key_cells.specs.Causes.{IsOpenFaultOf, IsDisk};
 ghost use Rattle.key_cells.specs.Opened.{Calm};
-ghost use Rattle.key_cells.specs.Layout.{opened_gate, header, part};
+ghost use Rattle.key_cells.specs.Layout.{opened_gate, header, part, cell_count, store_size};
 
 use crate::CellState;
 use crate::body::{is_zero, read_key};
@@ -21,8 +21,8 @@ const BLOCK: usize = 64;
 
 /// Reads the bytes of a cell.
 pub fn read_cell<D: Disk>(disk: &mut D, cell: usize, bytes: &mut [u8; 1088]) -> Result<(), Failed>
-    requires size { D.size disk.old ≡ 557120 }
-    requires within { cell < 512 }
+    requires size { D.size disk.old ≡ store_size }
+    requires within { cell < cell_count }
     ensures bytes { OnOk result (GivesPart (D.contents disk.old) (64 + 1088 * cell) 1088 bytes.new) }
     ensures same { D.contents disk.new ≡ D.contents disk.old }
     ensures size { D.size disk.new ≡ D.size disk.old }
@@ -44,8 +44,8 @@ pub fn cell_at(bytes: &[u8], place: usize) -> &[u8; 1088]
 // Reads a block of cells, where one begins with this cell; else its block has been read.
 #[tactic(auto, using(crate::proofs::Opened::calm_none, crate::proofs::Opened::calm_one))]
 fn read_block<D: Disk>(disk: &mut D, cell: usize, block: &mut [u8]) -> Result<(), Failed>
-    requires size { D.size disk.old ≡ 557120 }
-    requires within { cell < 512 }
+    requires size { D.size disk.old ≡ store_size }
+    requires within { cell < cell_count }
     requires room { length block.old ≡ 69632 }
     requires read { cell % 64 ≢ 0 → GivesBlock (D.contents disk.old) cell block.old }
     ensures bytes { OnOk result (GivesBlock (D.contents disk.old) cell block.new) }
@@ -133,7 +133,7 @@ pub fn decode(bytes: &[u8; 1088], before: &[CellState], found: u64) -> Option<Ce
 
 // How many keys were found, with this state.
 fn counted(found: u64, state: &CellState) -> u64
-    requires { found ≤ 512 }
+    requires { found ≤ cell_count }
     ensures { result ≡ found + cond (is_open state.now) 1 0 }
 {
     if state.has_key() { found + 1 } else { found }
@@ -156,7 +156,7 @@ pub const HEADER: [u8; 64] = [
 // Reads the header.
 #[tactic(auto, using(crate::proofs::Opened::calm_one))]
 fn read_header<D: Disk>(disk: &mut D) -> Result<[u8; 64], Failed>
-    requires { D.size disk.old ≡ 557120 }
+    requires { D.size disk.old ≡ store_size }
     ensures bytes { IfOk result (λ bytes. GivesPart (D.contents disk.old) 0 64 bytes) }
     ensures size { D.size disk.new ≡ D.size disk.old }
     ensures calm { Calm D.Disk disk.old disk.new }
@@ -183,17 +183,17 @@ pub fn read_store<D: Disk>(
     states: &mut Vec<CellState>,
     block: &mut [u8],
 ) -> Result<(), OpenFault>
-    requires size { D.size disk.old ≡ 557120 }
-    requires states { length states.old.items ≡ 512 }
+    requires size { D.size disk.old ≡ store_size }
+    requires states { length states.old.items ≡ cell_count }
     requires room { length block.old ≡ 69632 }
     ensures store { OnOk result (IfSome (D.contents disk.old) (λ image. IsStoreFile image)) }
-    ensures read { OnOk result (IfSome (D.contents disk.old) (λ image. ReadsBelow 512 states.new.items image)) }
-    ensures one { OnOk result (HasOneEach 512 states.new.items) }
-    ensures numbered { OnOk result (IsNumbered 512 states.new.items) }
-    ensures named { OnOk result (IsNamed 512 states.new.items) }
-    ensures states { length states.new.items ≡ 512 }
+    ensures read { OnOk result (IfSome (D.contents disk.old) (λ image. ReadsBelow cell_count states.new.items image)) }
+    ensures one { OnOk result (HasOneEach cell_count states.new.items) }
+    ensures numbered { OnOk result (IsNumbered cell_count states.new.items) }
+    ensures named { OnOk result (IsNamed cell_count states.new.items) }
+    ensures states { length states.new.items ≡ cell_count }
     ensures cause { IfErr result (λ fault. IfSome (D.contents disk.old) (λ image. IsOpenFaultOf fault image)) }
-    ensures size { D.size disk.new ≡ 557120 }
+    ensures size { D.size disk.new ≡ store_size }
     ensures calm { Calm D.Disk disk.old disk.new }
     ensures disk { IfErr result (λ fault. IsDisk fault → Rose (D.faults disk.old) (D.faults disk.new)) }
 {
@@ -214,17 +214,17 @@ fn read_states<D: Disk>(
     states: &mut Vec<CellState>,
     block: &mut [u8],
 ) -> Result<(), OpenFault>
-    requires size { D.size disk.old ≡ 557120 }
-    requires states { length states.old.items ≡ 512 }
+    requires size { D.size disk.old ≡ store_size }
+    requires states { length states.old.items ≡ cell_count }
     requires room { length block.old ≡ 69632 }
     requires store { IfSome (D.contents disk.old) (λ image. IsStoreFile image) }
-    ensures read { OnOk result (IfSome (D.contents disk.old) (λ image. ReadsBelow 512 states.new.items image)) }
-    ensures one { OnOk result (HasOneEach 512 states.new.items) }
-    ensures numbered { OnOk result (IsNumbered 512 states.new.items) }
-    ensures named { OnOk result (IsNamed 512 states.new.items) }
-    ensures states { length states.new.items ≡ 512 }
+    ensures read { OnOk result (IfSome (D.contents disk.old) (λ image. ReadsBelow cell_count states.new.items image)) }
+    ensures one { OnOk result (HasOneEach cell_count states.new.items) }
+    ensures numbered { OnOk result (IsNumbered cell_count states.new.items) }
+    ensures named { OnOk result (IsNamed cell_count states.new.items) }
+    ensures states { length states.new.items ≡ cell_count }
     ensures cause { IfErr result (λ fault. IfSome (D.contents disk.old) (λ image. IsOpenFaultOf fault image)) }
-    ensures size { D.size disk.new ≡ 557120 }
+    ensures size { D.size disk.new ≡ store_size }
     ensures calm { Calm D.Disk disk.old disk.new }
     ensures disk { IfErr result (λ fault. IsDisk fault → Rose (D.faults disk.old) (D.faults disk.new)) }
 {

@@ -1,5 +1,6 @@
 // The steps of a call: each is one write that is made sure of.
 ghost use Rattle.std.specs.Prelude.{◌≡◌, ◌≢◌, ◌<◌, ◌≤◌, ◌+◌, List, ℕ, length, set, OnOk, OnErr, IfErr};
+ghost use Rattle.key_cells.specs.Layout.{cell_count, store_size};
 ghost use Rattle.psa_status.specs.Causes.{HasCause};
 ghost use Rattle.disk_face.specs.Disk.{StillTells};
 ghost use Rattle.key_cells.specs.declared.state.CellState.TheVariants.{Free, Open, Shut, Unsure};
@@ -21,11 +22,11 @@ impl<D: Disk> Cells<D> {
         bytes: &[u8],
         state: CellState,
     ) -> Result<(), CellFault>
-        requires size { D.size self.old.disk ≡ 557120 }
-        requires states { length self.old.states.items ≡ 512 }
-        requires within { cell < 512 }
-        requires fits { at + length bytes.now ≤ 557120 }
-        ensures size { D.size self.new.disk ≡ 557120 }
+        requires size { D.size self.old.disk ≡ store_size }
+        requires states { length self.old.states.items ≡ cell_count }
+        requires within { cell < cell_count }
+        requires fits { at + length bytes.now ≤ store_size }
+        ensures size { D.size self.new.disk ≡ store_size }
         ensures ok { OnOk result (self.new.states.items ≡ set self.old.states.items cell state) }
         ensures err { OnErr result (self.new.states.items ≡ self.old.states.items) }
         ensures states { settled_state state ≡ settled_state (cell_state self.old.states.items cell) → settled_states self.new.states.items ≡ settled_states self.old.states.items }
@@ -47,11 +48,11 @@ impl<D: Disk> Cells<D> {
 
     // Closes the gate of a cell whose body is whole.
     pub(crate) fn close_gate(&mut self, cell: usize) -> Result<(), CellFault>
-        requires size { D.size self.old.disk ≡ 557120 }
-        requires states { length self.old.states.items ≡ 512 }
-        requires within { cell < 512 }
+        requires size { D.size self.old.disk ≡ store_size }
+        requires states { length self.old.states.items ≡ cell_count }
+        requires within { cell < cell_count }
         requires state { cell_state self.old.states.items cell ≡ Unsure }
-        ensures size { D.size self.new.disk ≡ 557120 }
+        ensures size { D.size self.new.disk ≡ store_size }
         ensures ok { OnOk result (self.new.states.items ≡ set self.old.states.items cell Shut) }
         ensures err { OnErr result (self.new.states.items ≡ self.old.states.items) }
         ensures states { settled_states self.new.states.items ≡ settled_states self.old.states.items }
@@ -66,11 +67,11 @@ impl<D: Disk> Cells<D> {
 
     // Makes a closed cell all zeros.
     pub(crate) fn clear_body(&mut self, cell: usize) -> Result<(), CellFault>
-        requires size { D.size self.old.disk ≡ 557120 }
-        requires states { length self.old.states.items ≡ 512 }
-        requires within { cell < 512 }
+        requires size { D.size self.old.disk ≡ store_size }
+        requires states { length self.old.states.items ≡ cell_count }
+        requires within { cell < cell_count }
         requires state { cell_state self.old.states.items cell ≡ Shut }
-        ensures size { D.size self.new.disk ≡ 557120 }
+        ensures size { D.size self.new.disk ≡ store_size }
         ensures ok { OnOk result (self.new.states.items ≡ set self.old.states.items cell Free) }
         ensures err { OnErr result (self.new.states.items ≡ self.old.states.items) }
         ensures states { settled_states self.new.states.items ≡ settled_states self.old.states.items }
@@ -85,11 +86,11 @@ impl<D: Disk> Cells<D> {
 
     // Writes the body of a closed cell, behind its gate.
     pub(crate) fn write_body(&mut self, cell: usize, body: &[u8; 1087]) -> Result<(), CellFault>
-        requires size { D.size self.old.disk ≡ 557120 }
-        requires states { length self.old.states.items ≡ 512 }
-        requires within { cell < 512 }
+        requires size { D.size self.old.disk ≡ store_size }
+        requires states { length self.old.states.items ≡ cell_count }
+        requires within { cell < cell_count }
         requires state { cell_state self.old.states.items cell ≡ Shut }
-        ensures size { D.size self.new.disk ≡ 557120 }
+        ensures size { D.size self.new.disk ≡ store_size }
         ensures ok { OnOk result (self.new.states.items ≡ set self.old.states.items cell Unsure) }
         ensures err { OnErr result (self.new.states.items ≡ self.old.states.items) }
         ensures states { settled_states self.new.states.items ≡ settled_states self.old.states.items }
@@ -105,11 +106,11 @@ impl<D: Disk> Cells<D> {
 
     // Opens the gate of a cell whose body is whole.
     pub(crate) fn open_gate(&mut self, cell: usize, id: u32, creation: u64) -> Result<(), CellFault>
-        requires size { D.size self.old.disk ≡ 557120 }
-        requires states { length self.old.states.items ≡ 512 }
-        requires within { cell < 512 }
+        requires size { D.size self.old.disk ≡ store_size }
+        requires states { length self.old.states.items ≡ cell_count }
+        requires within { cell < cell_count }
         requires state { cell_state self.old.states.items cell ≡ Unsure }
-        ensures size { D.size self.new.disk ≡ 557120 }
+        ensures size { D.size self.new.disk ≡ store_size }
         ensures ok { OnOk result (self.new.states.items ≡ set self.old.states.items cell (Open id creation)) }
         ensures err { OnErr result (self.new.states.items ≡ self.old.states.items) }
         ensures opened { OnOk result ((bytes : List ℕ) → ChangesCell D.Disk self.old self.new cell (Doubtful bytes) (Present bytes)) }

@@ -1,4 +1,5 @@
 -- What several proofs of this crate cite of its words, and of other crates'.
+pub use Rattle.key_cells.specs.Prelude.{store_size}
 pub use Rattle.atomic_table.specs.declared.shared.Seat.{Seat}
 pub use Rattle.key_policy.specs.Uses.{FitsUse, use_refusal}
 pub use Rattle.key_slots.specs.Holdings.{AreHoldings, Gains, IsHolding, Pairs, named, names, same}

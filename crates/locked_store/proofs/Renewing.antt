@@ -1,5 +1,5 @@
 -- The store before a turn and after it, and what was decided between.
-use Rattle.locked_store.proofs.Common.{AllByRecursion, AreHoldings, AreRising, DecidesAfter, Entry, FaultMark, HasModel, HoldsHistory, IsAt, IsBegun, IsCaller, IsCaused, IsClear, IsEntered, IsEntry, IsHolding, IsLater, IsLegal, IsReading, IsStartOf, IsTold, List, None, Opened, Opening, Option, OwnCalls, Pairs, ReadsKey, Request, Seat, Service, Some, StandsFor, Store, ToldBy, View, World, [], after_change, after_turn, ap, append-nil, arith, caller_of, entries_of, false, has_model, id_read, inl, inr, is_some, length, may_change_keys, opening_of, option_list, refl, replay, subst, sym, true, turn_entry, with_held_by, ℕ, ⊎_elim, ◌++◌, ◌∙◌, ◌∷◌, ◌≡◌, ◌≤◌}
+use Rattle.locked_store.proofs.Common.{AllByRecursion, AreHoldings, AreRising, DecidesAfter, Entry, FaultMark, HasModel, HoldsHistory, IsAt, IsBegun, IsCaller, IsCaused, IsClear, IsEntered, IsEntry, IsHolding, IsLater, IsLegal, IsReading, IsStartOf, IsTold, List, None, Opened, Opening, Option, OwnCalls, Pairs, ReadsKey, Request, Seat, Service, Some, StandsFor, Store, ToldBy, View, World, [], after_change, after_turn, ap, append-nil, arith, caller_of, entries_of, false, has_model, id_read, inl, inr, is_some, length, may_change_keys, opening_of, option_list, refl, replay, subst, sym, true, turn_entry, with_held_by, ℕ, ⊎_elim, ◌++◌, ◌∙◌, ◌∷◌, ◌≡◌, ◌≤◌, store_size}
 use Rattle.store_model.specs.Store as model
 use Rattle.locked_store.specs.declared.changes.Change.{Change}
 use Rattle.locked_store.proofs.Owning.{holding_of}
@@ -58,7 +58,7 @@ module _ {D A C : Type 0} (w : World D A C) where
   with_nothing store h all s = subst (λ l. Here store l all) (sym (append-nil h)) s
 
   -- a turn that leaves what the opening saw, and leads on from every start
-  pub renewed : (old new : Store D A C) (h h' : List Entry) (all all' : List Pairs) → Here old h all → AllByRecursion IsCaller h' → Rises old.opened h' → new.opened ≡ old.opened → w.disk.size new.file.cells.disk ≡ 557120 → IsClear new.buffer →
+  pub renewed : (old new : Store D A C) (h h' : List Entry) (all all' : List Pairs) → Here old h all → AllByRecursion IsCaller h' → Rises old.opened h' → new.opened ≡ old.opened → w.disk.size new.file.cells.disk ≡ store_size → IsClear new.buffer →
       is_some (w.disk.contents new.file.cells.disk) ≡ is_some (w.disk.contents old.file.cells.disk) → is_some (w.devices.keys new.devices) ≡ is_some (w.devices.keys old.devices) →
       ((start : Service) → From old.opened start → For new start (As old.opened) h' all') → Here new h' all'
   renewed old new h h' all all' s signed rising same sized clear tells knows next = record {

@@ -1,5 +1,5 @@
 -- A turn of the store, between a pass's beginning of its turn and the end.
-use Rattle.locked_store.proofs.Common.{Adds, AddsAs, AllByRecursion, AreHoldings, AreRising, Call, Copies, Copy, Creates, CreatesKey, DecidesAfter, DecidesBefore, Destroy, Destroys, Entry, Err, FaultCounts, FaultMark, Gains, Gives, HasModel, HasOut, HasOutBeside, IfErr, IfOk, IsAmong, IsBegun, IsCaller, IsClear, IsEntered, IsEnteredAfter, IsEntry, IsHolding, IsOwn, IsRanked, IsTold, LeavesAllKeys, LeavesKeys, List, Makes, NoFewerFaults, None, Ok, OnStore, Opened, Option, Pairs, Plain, Reads, ReadsAndGives, ReadsKey, Request, Result, Seat, Service, Some, Stands, Steps, Store, Success, Takes, ToldBy, View, World, [], ap, arith, created_unless, entries_fewer, entries_of, false, get_or, has_model, inl, inr, is_some, length, may_change_keys, named, names, plain_step, quiet_leaves, refl, refused_leaves, replay, result_mark, subst, suc, sym, told_before, true, turn_entry, with_held_by, without_pair, zero, ℕ, ⊎_elim, ◌++◌, ◌+◌, ◌-◌, ◌<◌, ◌^◌, ◌∙◌, ◌∷◌, ◌≡◌, ◌≤◌}
+use Rattle.locked_store.proofs.Common.{Adds, AddsAs, AllByRecursion, AreHoldings, AreRising, Call, Copies, Copy, Creates, CreatesKey, DecidesAfter, DecidesBefore, Destroy, Destroys, Entry, Err, FaultCounts, FaultMark, Gains, Gives, HasModel, HasOut, HasOutBeside, IfErr, IfOk, IsAmong, IsBegun, IsCaller, IsClear, IsEntered, IsEnteredAfter, IsEntry, IsHolding, IsOwn, IsRanked, IsTold, LeavesAllKeys, LeavesKeys, List, Makes, NoFewerFaults, None, Ok, OnStore, Opened, Option, Pairs, Plain, Reads, ReadsAndGives, ReadsKey, Request, Result, Seat, Service, Some, Stands, Steps, Store, Success, Takes, ToldBy, View, World, [], ap, arith, created_unless, entries_fewer, entries_of, false, get_or, has_model, inl, inr, is_some, length, may_change_keys, named, names, plain_step, quiet_leaves, refl, refused_leaves, replay, result_mark, subst, suc, sym, told_before, true, turn_entry, with_held_by, without_pair, zero, ℕ, ⊎_elim, ◌++◌, ◌+◌, ◌-◌, ◌<◌, ◌^◌, ◌∙◌, ◌∷◌, ◌≡◌, ◌≤◌, store_size}
 use Rattle.turn_history.proofs.Using.{keeps_own}
 use Rattle.key_attributes.specs.declared.Attributes.{Attributes}
 use Rattle.psa_status.specs.declared.Status.{Status}
@@ -20,7 +20,7 @@ module _ {D A C : Type 0} (w : World D A C) where
   -- what every turn leaves
   pub record IsSteady (old new : Store D A C) : Type 0 where
     pub opened : new.opened ≡ old.opened
-    pub sized : w.disk.size new.file.cells.disk ≡ 557120
+    pub sized : w.disk.size new.file.cells.disk ≡ store_size
     pub clear : IsClear new.buffer
     pub tells : is_some (w.disk.contents new.file.cells.disk) ≡ is_some (w.disk.contents old.file.cells.disk)
     pub knows : is_some (w.devices.keys new.devices) ≡ is_some (w.devices.keys old.devices)

@@ -1,6 +1,7 @@
 -- What it is for the store under the lock to stand for a history, and for what the callers have out of it.
 use Rattle.std.specs.Prelude.{◌≡◌, ℕ, List, is_some}
 use Rattle.std.specs.List.{AllByRecursion}
+use Rattle.key_cells.specs.Prelude.{store_size}
 use Rattle.secret_bytes.specs.Buffer.{IsClear}
 use Rattle.disk_face.specs.declared.Disk as disk
 use Rattle.driver_dispatch.specs.declared.devices.Devices as devices
@@ -28,7 +29,7 @@ pub record HoldsHistory {D A C : Type 0} (d : disk.Ghosts D) (a : devices.Ghosts
       StandsFor d a c store start (opening_of d a c store.opened) h all
   pub signed : AllByRecursion IsCaller h
   pub rising : AreRising (is_some (d.contents store.opened.file.value.cells.disk)) (opening_of d a c store.opened) h
-  pub sized : d.size store.file.cells.disk ≡ 557120
+  pub sized : d.size store.file.cells.disk ≡ store_size
   pub clear : IsClear store.buffer
   pub tells : is_some (d.contents store.file.cells.disk) ≡ is_some (d.contents store.opened.file.value.cells.disk)
   pub knows : is_some (a.keys store.devices) ≡ is_some (a.keys store.opened.devices.value)

@@ -2,7 +2,7 @@
 pub use Rattle.key_attributes.specs.declared.Attributes.{Attributes}
 pub use Rattle.key_cells.proofs.Bodies.{of_one_key}
 pub use Rattle.key_cells.proofs.Moves.{doubt_after, moves_after_settled, moves_none, moves_settled, settled_alike, settled_open, some_image}
-pub use Rattle.key_cells.specs.Prelude.{Absent, body, cell_state, Content, content_at, content_of, creation_of_state, CreationFailed, Doubtful, Finds, Fits, FitsCell, found_in, gate, has_id, HasKey, HasOneEach, HoldsId, HoldsKey, is_open, IsDamaged, IsFirstWithoutKey, IsFoundIn, IsFull, IsOpened, IsSure, Moves, MovesEither, opened_gate, Present, settled, settled_content, settled_state, settled_states, Shows}
+pub use Rattle.key_cells.specs.Prelude.{Absent, body, cell_count, cell_state, Content, content_at, content_of, creation_of_state, CreationFailed, Doubtful, Finds, Fits, FitsCell, found_in, gate, has_id, HasKey, HasOneEach, HoldsId, HoldsKey, is_open, IsDamaged, IsFirstWithoutKey, IsFoundIn, IsFull, IsOpened, IsSure, Moves, MovesEither, opened_gate, Present, settled, settled_content, settled_state, settled_states, Shows}
 unfoldable pub use Rattle.key_cells.specs.Prelude.{body_of}
 pub use Rattle.key_cells.specs.declared.state.CellState.{CellState}
 pub use Rattle.key_cells.specs.declared.state.CellState.TheVariants.{Free, Open, Shut, Unsure}

@@ -1,5 +1,5 @@
 -- A filed store after a change of its cells.
-use Rattle.persistent_keys.proofs.Common.{[], Absent, ap, arith, Attributes, cases_eq, cell_state, CellState, cond, Content, content_at, count_same, Doubt, Doubtful, eq-eqb, false, Free, get_or-map, get_or-set_other, get_or-set_same, has_id, HoldsId, HoldsKey, is_open, IsDoubted, IsDoubtedIn, IsFiled, IsOf, IsPut, Keys, length, length-set, List, ne_eqb, None, of_one_key, Open, Option, Present, refl, set, settled, settled_alike, settled_content, settled_open, settled_state, settled_states, Some, Stored, stored, subst, sym, TellsCell, true, ℕ, ⊎_elim, ◌<◌, ◌∙◌, ◌∷◌, ◌≡◌, ◌≢◌}
+use Rattle.persistent_keys.proofs.Common.{[], Absent, ap, arith, Attributes, cases_eq, cell_state, CellState, cond, Content, content_at, count_same, Doubt, Doubtful, eq-eqb, false, Free, get_or-map, get_or-set_other, get_or-set_same, has_id, HoldsId, HoldsKey, is_open, IsDoubted, IsDoubtedIn, IsFiled, IsOf, IsPut, Keys, length, length-set, List, ne_eqb, None, of_one_key, Open, Option, Present, refl, set, settled, settled_alike, settled_content, settled_open, settled_state, settled_states, Some, Stored, stored, subst, sym, TellsCell, true, ℕ, ⊎_elim, ◌<◌, ◌∙◌, ◌∷◌, ◌≡◌, ◌≢◌, cell_count}
 use Rattle.persistent_keys.proofs.Fitting.{tells_open}
 
 -- what is in doubt is in doubt there too
@@ -58,7 +58,7 @@ has_no_id : (id : ℕ) (state : CellState) → is_open state ≡ false → has_i
 has_no_id id (Open own creation) shut = cc
 has_no_id id state shut = refl
 
-settled_state_at : (states : List CellState) (cell : ℕ) → length states ≡ 512 → cell < 512 → cell_state (settled_states states) cell ≡ settled_state (cell_state states cell)
+settled_state_at : (states : List CellState) (cell : ℕ) → length states ≡ cell_count → cell < cell_count → cell_state (settled_states states) cell ≡ settled_state (cell_state states cell)
 settled_state_at states cell sized lt = get_or-map settled_state states cell Free Free (omega (arith, sized))
 
 pub settled_twice : (states : List CellState) → settled_states (settled_states states) ≡ settled_states states
@@ -67,7 +67,7 @@ settled_twice (Open id creation ∷ states) = ap (λ (l : List CellState). Open 
 settled_twice (state ∷ states) = ap (λ (l : List CellState). Free ∷ l) (settled_twice states)
 
 -- nothing is in doubt any more
-pub settles : (keys : Keys) (doubt doubt' : Doubt) (states : List CellState) (contents : List Content) → length contents ≡ 512 → IsFiled keys doubt states contents → IsFiled keys doubt' states (settled contents)
+pub settles : (keys : Keys) (doubt doubt' : Doubt) (states : List CellState) (contents : List Content) → length contents ≡ cell_count → IsFiled keys doubt states contents → IsFiled keys doubt' states (settled contents)
 settles keys doubt doubt' states contents count f = record {
   sized = f.sized;
   each = λ cell lt. rw (get_or-map settled_content contents cell Absent Absent (omega (arith, count))) (tells_sure keys doubt doubt' (cell_state states cell) (content_at contents cell) (f.each cell lt));
@@ -75,21 +75,21 @@ settles keys doubt doubt' states contents count f = record {
   apart = λ id cell other lt lt' is is'. f.apart id cell other lt lt' (was id cell lt is) (was id other lt' is');
 }
   where
-    was : (id cell : ℕ) → cell < 512 → IsOf id (content_at (settled contents) cell) → IsOf id (content_at contents cell)
+    was : (id cell : ℕ) → cell < cell_count → IsOf id (content_at (settled contents) cell) → IsOf id (content_at contents cell)
     was id cell lt is = of_settled id (content_at contents cell) (subst (λ (c : Content). IsOf id c) (get_or-map settled_content contents cell Absent Absent (omega (arith, count))) is)
 
 -- a directory that is as good once nothing is in doubt: a cell that has a key has it there
-alike_at : (states states' : List CellState) (cell : ℕ) → length states ≡ 512 → cell < 512 → settled_states states' ≡ settled_states states → settled_state (cell_state states' cell) ≡ settled_state (cell_state states cell)
+alike_at : (states states' : List CellState) (cell : ℕ) → length states ≡ cell_count → cell < cell_count → settled_states states' ≡ settled_states states → settled_state (cell_state states' cell) ≡ settled_state (cell_state states cell)
 alike_at states states' cell sized lt same =
-    sym (settled_state_at states' cell (count_same states states' 512 same sized) lt) ∙ (ap (λ (l : List CellState). cell_state l cell) same ∙ settled_state_at states cell sized lt)
+    sym (settled_state_at states' cell (count_same states states' cell_count same sized) lt) ∙ (ap (λ (l : List CellState). cell_state l cell) same ∙ settled_state_at states cell sized lt)
 
-pub still_has : (states states' : List CellState) (id cell : ℕ) → length states ≡ 512 → cell < 512 → settled_states states' ≡ settled_states states → has_id id (cell_state states cell) ≡ true → has_id id (cell_state states' cell) ≡ true
+pub still_has : (states states' : List CellState) (id cell : ℕ) → length states ≡ cell_count → cell < cell_count → settled_states states' ≡ settled_states states → has_id id (cell_state states cell) ≡ true → has_id id (cell_state states' cell) ≡ true
 still_has states states' id cell sized lt same has =
     sym (has_settled id (cell_state states' cell)) ∙ (ap (has_id id) (alike_at states states' cell sized lt same) ∙ (has_settled id (cell_state states cell) ∙ has))
 
 pub resettles : (keys : Keys) (doubt : Doubt) (states states' : List CellState) (contents : List Content) → settled_states states' ≡ settled_states states → IsFiled keys doubt states contents → IsFiled keys doubt states' contents
 resettles keys doubt states states' contents same f = record {
-  sized = count_same states states' 512 same f.sized;
+  sized = count_same states states' cell_count same f.sized;
   each = λ cell lt. tells_alike keys doubt (cell_state states cell) (cell_state states' cell) (content_at contents cell) (alike_at states states' cell f.sized lt same) (f.each cell lt);
   found = λ id key is. let c = f.found id key is in (c.0, c.1, still_has states states' id c.0 f.sized c.1 same c.2);
   apart = f.apart;
@@ -105,18 +105,18 @@ refiled keys keys' doubt doubt' states contents same wider f = record {
 }
 
 -- an identifier is that of one state
-pub one : (keys : Keys) (doubt : Doubt) (states : List CellState) (contents : List Content) → IsFiled keys doubt states contents → (id cell other : ℕ) → cell < 512 → other < 512 → has_id id (cell_state states cell) ≡ true → has_id id (cell_state states other) ≡ true → cell ≡ other
+pub one : (keys : Keys) (doubt : Doubt) (states : List CellState) (contents : List Content) → IsFiled keys doubt states contents → (id cell other : ℕ) → cell < cell_count → other < cell_count → has_id id (cell_state states cell) ≡ true → has_id id (cell_state states other) ≡ true → cell ≡ other
 one keys doubt states contents f id cell other lt lt' has has' = f.apart id cell other lt lt' (of_open cell lt has) (of_open other lt' has')
   where
-    of_open : (k : ℕ) → k < 512 → has_id id (cell_state states k) ≡ true → IsOf id (content_at contents k)
+    of_open : (k : ℕ) → k < cell_count → has_id id (cell_state states k) ≡ true → IsOf id (content_at contents k)
     of_open k less h =
         let o = tells_open keys doubt (cell_state states k) (content_at contents k) id h (f.each k less) in
         subst (λ (c : Content). IsOf id c) (sym o.5) (o.2, o.3, o.6, o.7)
 
 -- one cell changes
-each_set : (keys : Keys) (doubt : Doubt) (states : List CellState) (contents : List Content) (cell : ℕ) (state : CellState) (content : Content) → length states ≡ 512 → length contents ≡ 512 → cell < 512 → TellsCell keys doubt state content
-    → ((other : ℕ) → other < 512 → other ≢ cell → TellsCell keys doubt (cell_state states other) (content_at contents other))
-    → (other : ℕ) → other < 512 → TellsCell keys doubt (cell_state (set states cell state) other) (content_at (set contents cell content) other)
+each_set : (keys : Keys) (doubt : Doubt) (states : List CellState) (contents : List Content) (cell : ℕ) (state : CellState) (content : Content) → length states ≡ cell_count → length contents ≡ cell_count → cell < cell_count → TellsCell keys doubt state content
+    → ((other : ℕ) → other < cell_count → other ≢ cell → TellsCell keys doubt (cell_state states other) (content_at contents other))
+    → (other : ℕ) → other < cell_count → TellsCell keys doubt (cell_state (set states cell state) other) (content_at (set contents cell content) other)
 each_set keys doubt states contents cell state content sized count lt here else other less = ⊎_elim
     (λ is. rw is (rw (get_or-set_same states cell state Free (omega (arith, sized)), get_or-set_same contents cell content Absent (omega (arith, count))) here))
     (λ differs. rw (get_or-set_other states cell other state Free differs, get_or-set_other contents cell other content Absent differs) (else other less differs))
@@ -127,10 +127,10 @@ tells_shut keys doubt (Open id creation) body shut d = cc
 tells_shut keys doubt state body shut d = d
 
 -- the content of one cell changes to one of an identifier that no other cell has
-apart_set : (contents : List Content) (cell : ℕ) (content : Content) → length contents ≡ 512 → cell < 512
-    → ((id a b : ℕ) → a < 512 → b < 512 → IsOf id (content_at contents a) → IsOf id (content_at contents b) → a ≡ b)
-    → ((id other : ℕ) → other < 512 → other ≢ cell → IsOf id content → IsOf id (content_at contents other) → ⊥)
-    → (id a b : ℕ) → a < 512 → b < 512 → IsOf id (content_at (set contents cell content) a) → IsOf id (content_at (set contents cell content) b) → a ≡ b
+apart_set : (contents : List Content) (cell : ℕ) (content : Content) → length contents ≡ cell_count → cell < cell_count
+    → ((id a b : ℕ) → a < cell_count → b < cell_count → IsOf id (content_at contents a) → IsOf id (content_at contents b) → a ≡ b)
+    → ((id other : ℕ) → other < cell_count → other ≢ cell → IsOf id content → IsOf id (content_at contents other) → ⊥)
+    → (id a b : ℕ) → a < cell_count → b < cell_count → IsOf id (content_at (set contents cell content) a) → IsOf id (content_at (set contents cell content) b) → a ≡ b
 apart_set contents cell content count lt apart alone id a b la lb is is' =
     ⊎_elim
     (λ e. ⊎_elim (λ e'. e ∙ sym e') (λ ne'. absurd (alone id b lb ne' (here a e is) (there b ne' is'))) (cases_eq b cell))
@@ -149,10 +149,10 @@ one_id id other body h k = sym h.3 ∙ (ap (λ (a : Attributes). a.id.0) (of_one
 
 -- no cell has a key of this identifier, for sure or in doubt
 abbrev pub HasNone : ℕ → List Content → Type 0
-HasNone id contents = (cell : ℕ) → cell < 512 → IsOf id (content_at contents cell) → ⊥
+HasNone id contents = (cell : ℕ) → cell < cell_count → IsOf id (content_at contents cell) → ⊥
 
 -- once nothing is in doubt, a key that the file hasn't is in no cell
-pub none_settled : (keys : Keys) (doubt : Doubt) (states : List CellState) (contents : List Content) (id : ℕ) → length contents ≡ 512 → keys id ≡ None → IsFiled keys doubt states (settled contents) → HasNone id (settled contents)
+pub none_settled : (keys : Keys) (doubt : Doubt) (states : List CellState) (contents : List Content) (id : ℕ) → length contents ≡ cell_count → keys id ≡ None → IsFiled keys doubt states (settled contents) → HasNone id (settled contents)
 none_settled keys doubt states contents id count none f cell lt is =
     by (cell_state states cell) (content_at contents cell) (subst (λ (c : Content). TellsCell keys doubt (cell_state states cell) c) at (f.each cell lt)) (subst (λ (c : Content). IsOf id c) at is)
   where
@@ -167,7 +167,7 @@ none_settled keys doubt states contents id count none f cell lt is =
     by state content t is = is
 
 -- a key is in doubt in a cell that has none
-pub doubts : (keys : Keys) (doubt : Doubt) (states : List CellState) (contents : List Content) (cell id : ℕ) (body : List ℕ) → length contents ≡ 512 → cell < 512 → is_open (cell_state states cell) ≡ false → HoldsId id body → IsDoubtedIn doubt body → HasNone id contents
+pub doubts : (keys : Keys) (doubt : Doubt) (states : List CellState) (contents : List Content) (cell id : ℕ) (body : List ℕ) → length contents ≡ cell_count → cell < cell_count → is_open (cell_state states cell) ≡ false → HoldsId id body → IsDoubtedIn doubt body → HasNone id contents
     → IsFiled keys doubt states contents → IsFiled keys doubt states (set contents cell (Doubtful body))
 doubts keys doubt states contents cell id body count lt shut holds d none f = record {
   sized = f.sized;
@@ -180,7 +180,7 @@ doubts keys doubt states contents cell id body count lt shut holds d none f = re
 }
 
 -- a key is put into a cell that has none
-pub adds : (keys keys' : Keys) (doubt : Doubt) (states : List CellState) (contents : List Content) (cell creation : ℕ) (a : Attributes) (bytes body : List ℕ) → length contents ≡ 512 → cell < 512 → is_open (cell_state states cell) ≡ false → HoldsKey a bytes body → keys a.id.0 ≡ None → HasNone a.id.0 contents
+pub adds : (keys keys' : Keys) (doubt : Doubt) (states : List CellState) (contents : List Content) (cell creation : ℕ) (a : Attributes) (bytes body : List ℕ) → length contents ≡ cell_count → cell < cell_count → is_open (cell_state states cell) ≡ false → HoldsKey a bytes body → keys a.id.0 ≡ None → HasNone a.id.0 contents
     → IsPut keys keys' a.id.0 (Some (stored creation a bytes)) → IsFiled keys doubt states contents → IsFiled keys' doubt (set states cell (Open a.id.0 creation)) (set contents cell (Present body))
 adds keys keys' doubt states contents cell creation a bytes body count lt shut holds none none_there put f = record {
   sized = length-set states cell (Open id creation) ∙ f.sized;
@@ -211,11 +211,11 @@ adds keys keys' doubt states contents cell creation a bytes body count lt shut h
     closed : (q : ℕ) → has_id q (cell_state states cell) ≡ true → ⊥
     closed q has = let z : false ≡ true = sym (has_no_id q (cell_state states cell) shut) ∙ has in cc
 
-    not_there : (other : ℕ) → other < 512 → has_id id (cell_state states other) ≡ true → ⊥
+    not_there : (other : ℕ) → other < cell_count → has_id id (cell_state states other) ≡ true → ⊥
     not_there other less has = let o = tells_open keys doubt (cell_state states other) (content_at contents other) id has (f.each other less) in let z : None ≡ Some (stored o.0 o.2 o.3) = sym none ∙ o.8 in cc
 
 -- the key of a cell is taken away, or in doubt there
-pub removes : (keys keys' : Keys) (doubt doubt' : Doubt) (states : List CellState) (contents : List Content) (cell id : ℕ) (state : CellState) (content : Content) → length contents ≡ 512 → cell < 512 → has_id id (cell_state states cell) ≡ true → is_open state ≡ false
+pub removes : (keys keys' : Keys) (doubt doubt' : Doubt) (states : List CellState) (contents : List Content) (cell id : ℕ) (state : CellState) (content : Content) → length contents ≡ cell_count → cell < cell_count → has_id id (cell_state states cell) ≡ true → is_open state ≡ false
     → TellsCell keys' doubt' state content → ((q : ℕ) → IsOf q content → IsOf q (content_at contents cell)) → IsWider doubt doubt' → IsPut keys keys' id None → IsFiled keys doubt states contents → IsFiled keys' doubt' (set states cell state) (set contents cell content)
 removes keys keys' doubt doubt' states contents cell id state content count lt has shut here same_of wider put f = record {
   sized = length-set states cell state ∙ f.sized;
@@ -247,5 +247,5 @@ no_key keys doubt states contents id none f = go (keys id) refl
     go None e = refl
     go (Some key) e = let c = f.found id key e in let z : false ≡ true = sym (none c.0 (omega (arith, f.sized, c.1))) ∙ c.2 in cc
 
-pub settled_shut : (states : List CellState) (cell : ℕ) → length states ≡ 512 → cell < 512 → is_open (cell_state states cell) ≡ false → is_open (cell_state (settled_states states) cell) ≡ false
+pub settled_shut : (states : List CellState) (cell : ℕ) → length states ≡ cell_count → cell < cell_count → is_open (cell_state states cell) ≡ false → is_open (cell_state (settled_states states) cell) ≡ false
 settled_shut states cell sized lt shut = ap is_open (settled_state_at states cell sized lt) ∙ (settled_open (cell_state states cell) ∙ shut)

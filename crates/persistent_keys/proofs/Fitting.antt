@@ -1,5 +1,5 @@
 -- An image that fits the contents of a filed store has its keys, and maybe some that are in doubt.
-use Rattle.persistent_keys.proofs.Common.{Absent, ap, arith, Attributes, body, cell_state, CellState, Content, content_at, Doubt, Doubtful, eqb-true, Fits, FitsCell, FitsKeys, gate, has_id, HasKey, HoldsKey, inl, inr, IsDamaged, IsDoubted, IsFiled, IsOf, Keys, length, List, of_one_key, Open, opened_gate, Present, refl, Some, Stored, stored, subst, sym, TellsCell, true, ℕ, ⊎_elim, ◌<◌, ◌∙◌, ◌≡◌, ◌⊎◌}
+use Rattle.persistent_keys.proofs.Common.{Absent, ap, arith, Attributes, body, cell_state, CellState, Content, content_at, Doubt, Doubtful, eqb-true, Fits, FitsCell, FitsKeys, gate, has_id, HasKey, HoldsKey, inl, inr, IsDamaged, IsDoubted, IsFiled, IsOf, Keys, length, List, of_one_key, Open, opened_gate, Present, refl, Some, Stored, stored, subst, sym, TellsCell, true, ℕ, ⊎_elim, ◌<◌, ◌∙◌, ◌≡◌, ◌⊎◌, cell_count}
 use Rattle.key_cells.proofs.Finding.{id_of}
 
 -- what is told of an open cell
@@ -30,11 +30,11 @@ open_tells keys doubt state (Doubtful body) g b t fits is = doubtful state t
     doubtful (Open id creation) t = absurd t
     doubtful state t = (t.0, t.1, subst (λ (x : List ℕ). HoldsKey t.0 t.1 x) (sym (fits is)) t.2, (t.0, t.1, t.2, refl), inr t.3)
 
-module _ (keys : Keys) (doubt : Doubt) (states : List CellState) (contents : List Content) (count : length contents ≡ 512) (f : IsFiled keys doubt states contents) (image : List ℕ) (fits : Fits contents image) where
-  at : (cell : ℕ) → cell < 512 → gate cell image ≡ opened_gate → (a : Attributes) × (bytes : List ℕ) × HoldsKey a bytes (body cell image) × IsOf a.id.0 (content_at contents cell) × Tells keys doubt a bytes
+module _ (keys : Keys) (doubt : Doubt) (states : List CellState) (contents : List Content) (count : length contents ≡ cell_count) (f : IsFiled keys doubt states contents) (image : List ℕ) (fits : Fits contents image) where
+  at : (cell : ℕ) → cell < cell_count → gate cell image ≡ opened_gate → (a : Attributes) × (bytes : List ℕ) × HoldsKey a bytes (body cell image) × IsOf a.id.0 (content_at contents cell) × Tells keys doubt a bytes
   at cell lt is = open_tells keys doubt (cell_state states cell) (content_at contents cell) (gate cell image) (body cell image) (f.each cell lt) (fits.each cell lt) is
 
-  undamaged : (cell : ℕ) → cell < 512 → IsDamaged image cell → ⊥
+  undamaged : (cell : ℕ) → cell < cell_count → IsDamaged image cell → ⊥
   undamaged cell lt damaged =
       let here = at cell lt damaged.0 in
       ⊎_elim

@@ -1,5 +1,5 @@
 -- What a file stands for that was opened.
-use Rattle.persistent_keys.proofs.Common.{Absent, AreFound, Content, Finds, Free, HasOneEach, HoldsId, HoldsKey, IfSome, IsFiled, IsFoundIn, IsOf, IsOpened, Keys, List, None, Open, Option, Present, CellState, Some, StandsForKeys, Stored, TellsCell, [], ap, arith, body, cases_eq, cell_state, cond, content_at, content_of, creation_of_state, false, found_in, gate, get_or-replicate, has_id, length, ne_eqb, refl, stored, subst, suc, sym, true, zero, ℕ, ⊎_elim, ◌+◌, ◌<◌, ◌==◌, ◌∙◌, ◌∷◌, ◌≡◌, ◌≢◌, ◌≤◌}
+use Rattle.persistent_keys.proofs.Common.{Absent, AreFound, Content, Finds, Free, HasOneEach, HoldsId, HoldsKey, IfSome, IsFiled, IsFoundIn, IsOf, IsOpened, Keys, List, None, Open, Option, Present, CellState, Some, StandsForKeys, Stored, TellsCell, [], ap, arith, body, cases_eq, cell_state, cond, content_at, content_of, creation_of_state, false, found_in, gate, get_or-replicate, has_id, length, ne_eqb, refl, stored, subst, suc, sym, true, zero, ℕ, ⊎_elim, ◌+◌, ◌<◌, ◌==◌, ◌∙◌, ◌∷◌, ◌≡◌, ◌≢◌, ◌≤◌, cell_count}
 use Rattle.disk_face.specs.declared.Disk as Disk
 use Rattle.std.proofs.lemmas.Bool.{eqb-true, eq-eqb}
 use Rattle.key_cells.specs.Contents as cells
@@ -22,8 +22,8 @@ found_cell Free g b f = subst (λ (c : Content). FoundIn Free c b) (sym (not_ope
 found_cell (Open id creation) g b f = subst (λ (x : List ℕ). FoundIn (Open id creation) (content_of x b) b) (sym f.0) (refl, f.1)
 found_cell state g b f = absurd f
 
-module _ (states : List CellState) (contents : List Content) (image : List ℕ) (sized : length states ≡ 512) (one_each : HasOneEach 512 states) (found : (cell : ℕ) → cell < 512 → FoundIn (cell_state states cell) (content_at contents cell) (body cell image)) (keys : Keys) (are : AreFound image states keys) where
-  tells : (cell : ℕ) → cell < 512 → (state : CellState) (content : Content) → cell_state states cell ≡ state → FoundIn state content (body cell image) → TellsCell keys [] state content
+module _ (states : List CellState) (contents : List Content) (image : List ℕ) (sized : length states ≡ cell_count) (one_each : HasOneEach cell_count states) (found : (cell : ℕ) → cell < cell_count → FoundIn (cell_state states cell) (content_at contents cell) (body cell image)) (keys : Keys) (are : AreFound image states keys) where
+  tells : (cell : ℕ) → cell < cell_count → (state : CellState) (content : Content) → cell_state states cell ≡ state → FoundIn state content (body cell image) → TellsCell keys [] state content
   unfolding FoundIn
   tells cell lt Free Absent is f = tt
   tells cell lt (Open id creation) (Present bytes) is f =
@@ -53,9 +53,9 @@ module _ (states : List CellState) (contents : List Content) (image : List ℕ) 
         (of_open id (cell_state states other) (content_at contents other) (body other image) (found other lt') is');
   }
 
-found_each : (image : List ℕ) (states : List CellState) → IsFoundIn image states → (cell : ℕ) → cell < 512 → FoundIn (cell_state states cell) (content_at (found_in image) cell) (body cell image)
+found_each : (image : List ℕ) (states : List CellState) → IsFoundIn image states → (cell : ℕ) → cell < cell_count → FoundIn (cell_state states cell) (content_at (found_in image) cell) (body cell image)
 unfolding FoundIn
-found_each [] states is cell lt = rw (ap (λ (l : List CellState). cell_state l cell) is ∙ get_or-replicate 512 cell Free Free lt, get_or-replicate 512 cell Absent Absent lt) tt
+found_each [] states is cell lt = rw (ap (λ (l : List CellState). cell_state l cell) is ∙ get_or-replicate cell_count cell Free Free lt, get_or-replicate cell_count cell Absent Absent lt) tt
 found_each (byte ∷ rest) states is cell lt = rw (content_there cell (byte ∷ rest) lt) (found_cell (cell_state states cell) (gate cell (byte ∷ rest)) (body cell (byte ∷ rest)) (is.each cell lt))
 
 module _ {D : Type 0} (disks : Disk.Ghosts D) where
@@ -112,7 +112,7 @@ keys_next image states count below (Open own creation) g is f =
     not_last id cell differs has same = differs (sym (eqb-true own id (sym (ap (has_id id) (ap (cell_state states) same ∙ is)) ∙ has)))
 keys_next image states count below state g is f = absurd f
 
-keys_below : (image : List ℕ) (states : List CellState) → ((cell : ℕ) → cell < 512 → Finds (cell_state states cell) (gate cell image) (body cell image)) → (count : ℕ) → count ≤ 512 → KeysBelow image states count
+keys_below : (image : List ℕ) (states : List CellState) → ((cell : ℕ) → cell < cell_count → Finds (cell_state states cell) (gate cell image) (body cell image)) → (count : ℕ) → count ≤ cell_count → KeysBelow image states count
 keys_below image states each zero le = record {
   keys = λ id. None;
   there = λ id key e. cc;
@@ -127,11 +127,11 @@ found_keys [] states is = (
   λ id. None,
   record {
     there = λ id key e. cc;
-    all = λ id cell lt has. let z : false ≡ true = sym (ap (λ (l : List CellState). has_id id (cell_state l cell)) is ∙ ap (has_id id) (get_or-replicate 512 cell Free Free lt)) ∙ has in absurd (false_true z);
+    all = λ id cell lt has. let z : false ≡ true = sym (ap (λ (l : List CellState). has_id id (cell_state l cell)) is ∙ ap (has_id id) (get_or-replicate cell_count cell Free Free lt)) ∙ has in absurd (false_true z);
   },
 )
 found_keys (byte ∷ rest) states is =
-    let below = keys_below (byte ∷ rest) states is.each 512 (omega arith) in
+    let below = keys_below (byte ∷ rest) states is.each cell_count (omega arith) in
     (below.keys, record { there = below.there; all = below.all })
 
 pub some_found : (told : Option (List ℕ)) (states : List CellState) → IfSome told (λ image. IsFoundIn image states) → IfSome told (λ image. (keys : Keys) × AreFound image states keys)

@@ -1,5 +1,5 @@
 -- How calls of the cells lead from keys to keys.
-use Rattle.persistent_keys.proofs.Common.{[], Absent, ap, arith, Attributes, body, cell_state, CellState, Content, content_at, count_same, creation_of_state, CreationFailed, Doubt, doubt_after, Doubtful, false, FitsKeys, Free, free_set_after, gate, get_or-map, get_or-set_same, has_id, HoldsKey, IfSome, inl, inr, is_open, IsDoubted, IsFiled, IsOf, IsPut, Keys, Leads, length, length-map, List, map-set, Moves, moves_after_settled, moves_none, moves_settled, MovesEither, None, not_free_as, of_one_key, Open, Present, refl, set, settled, settled_content, settled_state, settled_states, Shows, Some, some_image, StandsForKeys, Stored, stored, subst, sym, true, Unsure, ℕ, ⊎_elim, ◌<◌, ◌∙◌, ◌∷◌, ◌≡◌}
+use Rattle.persistent_keys.proofs.Common.{[], Absent, ap, arith, Attributes, body, cell_state, CellState, Content, content_at, count_same, creation_of_state, CreationFailed, Doubt, doubt_after, Doubtful, false, FitsKeys, Free, free_set_after, gate, get_or-map, get_or-set_same, has_id, HoldsKey, IfSome, inl, inr, is_open, IsDoubted, IsFiled, IsOf, IsPut, Keys, Leads, length, length-map, List, map-set, Moves, moves_after_settled, moves_none, moves_settled, MovesEither, None, not_free_as, of_one_key, Open, Present, refl, set, settled, settled_content, settled_state, settled_states, Shows, Some, some_image, StandsForKeys, Stored, stored, subst, sym, true, Unsure, ℕ, ⊎_elim, ◌<◌, ◌∙◌, ◌∷◌, ◌≡◌, cell_count}
 use Rattle.disk_face.specs.declared.Disk as Disk
 use Rattle.key_cells.specs.Contents as cells
 use Rattle.key_cells.proofs.Images.{sound_fits}
@@ -8,7 +8,7 @@ use Rattle.persistent_keys.proofs.Filing.{no_doubt, settles, resettles, settled_
 
 module _ {D : Type 0} (disks : Disk.Ghosts D) where
   -- contents before and after that are filed
-  pub leads : (old new : D) (states states' : List CellState) (from to : List Content) (keys keys' : Keys) (doubt doubt' : Doubt) → length from ≡ 512
+  pub leads : (old new : D) (states states' : List CellState) (from to : List Content) (keys keys' : Keys) (doubt doubt' : Doubt) → length from ≡ cell_count
       → IsFiled keys doubt states from → IsFiled keys' doubt' states' to → Moves disks old new states states' from to → Leads disks old new states states' keys doubt keys' doubt'
   leads old new states states' from to keys keys' doubt doubt' count before after m = record {
     stands = record { contents = to; stands = m.stands; filed = after };
@@ -32,11 +32,11 @@ module _ {D : Type 0} (disks : Disk.Ghosts D) where
   stands_fits disk states keys doubt image s left = filed_fits keys doubt states s.contents s.stands.count s.filed image (sound_fits states s.contents image (s.stands.each image left))
 
   -- the file's key of an identifier, by its cell
-  pub key_of_cell : (disk : D) (states : List CellState) (keys : Keys) (doubt : Doubt) (id cell : ℕ) → cell < 512 → has_id id (cell_state states cell) ≡ true → StandsForKeys disks disk states keys doubt → (key : Stored) × (keys id ≡ Some key)
+  pub key_of_cell : (disk : D) (states : List CellState) (keys : Keys) (doubt : Doubt) (id cell : ℕ) → cell < cell_count → has_id id (cell_state states cell) ≡ true → StandsForKeys disks disk states keys doubt → (key : Stored) × (keys id ≡ Some key)
   key_of_cell disk states keys doubt id cell lt has s = let o = tells_open keys doubt (cell_state states cell) (content_at s.contents cell) id has (s.filed.each cell lt) in (stored o.0 o.2 o.3, o.8)
 
   -- what was read of its cell is the file's key
-  pub loaded_key : (disk : D) (states : List CellState) (keys : Keys) (doubt : Doubt) (id cell : ℕ) (a : Attributes) (bytes : List ℕ) → cell < 512 → has_id id (cell_state states cell) ≡ true → StandsForKeys disks disk states keys doubt
+  pub loaded_key : (disk : D) (states : List CellState) (keys : Keys) (doubt : Doubt) (id cell : ℕ) (a : Attributes) (bytes : List ℕ) → cell < cell_count → has_id id (cell_state states cell) ≡ true → StandsForKeys disks disk states keys doubt
       → ((contents : List Content) (body : List ℕ) → content_at contents cell ≡ Present body → cells.StandsForContents disks disk states contents → HoldsKey a bytes body) → keys id ≡ Some (stored (creation_of_state (cell_state states cell)) a bytes)
   loaded_key disk states keys doubt id cell a bytes lt has s loaded =
       let o = tells_open keys doubt (cell_state states cell) (content_at s.contents cell) id has (s.filed.each cell lt) in
@@ -48,7 +48,7 @@ module _ {D : Type 0} (disks : Disk.Ghosts D) where
   no_key_in disk states keys doubt id none s = no_key keys doubt states s.contents id none s.filed
 
   -- a cell whose content is in doubt isn't open
-  doubtful_shut : (disk : D) (states : List CellState) (contents : List Content) (cell : ℕ) (body' : List ℕ) → cell < 512 → content_at contents cell ≡ Doubtful body' → cells.StandsForContents disks disk states contents → IfSome (disks.contents disk) (disks.may_leave disk) → is_open (cell_state states cell) ≡ false
+  doubtful_shut : (disk : D) (states : List CellState) (contents : List Content) (cell : ℕ) (body' : List ℕ) → cell < cell_count → content_at contents cell ≡ Doubtful body' → cells.StandsForContents disks disk states contents → IfSome (disks.contents disk) (disks.may_leave disk) → is_open (cell_state states cell) ≡ false
   doubtful_shut disk states contents cell body' lt is s read =
       let image = some_image disks disk states contents s read in
       shut (cell_state states cell) (gate cell image.0) (body cell image.0) (rw is at ((s.each image.0 image.1).each cell lt))
@@ -90,7 +90,7 @@ module _ {D : Type 0} (disks : Disk.Ghosts D) where
     settled_leads = leads old mid states states' s.contents sure keys keys doubt doubt s.stands.count s.filed (sure_filed doubt) settling
 
     -- a key was made
-    pub made_leads : (new : D) (last : List CellState) (keys' : Keys) (cell creation : ℕ) (a : Attributes) (bytes made : List ℕ) → cell < 512 → is_open (cell_state states' cell) ≡ false → last ≡ set (settled_states states') cell (Open a.id.0 creation)
+    pub made_leads : (new : D) (last : List CellState) (keys' : Keys) (cell creation : ℕ) (a : Attributes) (bytes made : List ℕ) → cell < cell_count → is_open (cell_state states' cell) ≡ false → last ≡ set (settled_states states') cell (Open a.id.0 creation)
         → HoldsKey a bytes made → keys a.id.0 ≡ None → IsPut keys keys' a.id.0 (Some (stored creation a bytes))
         → ((contents : List Content) → cells.StandsForContents disks mid states' contents → Moves disks mid new states' last contents (set (settled contents) cell (Present made)))
         → Leads disks old new states last keys doubt keys' []
@@ -111,8 +111,8 @@ module _ {D : Type 0} (disks : Disk.Ghosts D) where
         ⊎_elim
         (λ m. goes_on new last sure keys doubt' m (resettles keys doubt' states' last sure alike (sure_filed doubt')))
         (λ f. let cell = f.0 in let to = set (settled sure) cell (Doubtful made) in
-        let lt : cell < 512 = omega (arith, f.1.within, (sure_filed doubt').sized) in
-        let count : length (settled sure) ≡ 512 = length-map sure _ ∙ settling.stands.count in
+        let lt : cell < cell_count = omega (arith, f.1.within, (sure_filed doubt').sized) in
+        let count : length (settled sure) ≡ cell_count = length-map sure _ ∙ settling.stands.count in
         let filed = resettles keys doubt' states' last (settled sure) alike (surer_filed doubt') in
         let shut = doubtful_shut new last to cell made lt (get_or-set_same (settled sure) cell (Doubtful made) Absent (omega (arith, count, lt))) f.2.stands read in
         goes_on new last to keys doubt' f.2 (doubts keys doubt' last (settled sure) cell a.id.0 made count lt shut (a, bytes, holds, refl) (a, bytes, holds, inl (refl, refl))
@@ -120,7 +120,7 @@ module _ {D : Type 0} (disks : Disk.Ghosts D) where
         (failed sure settling.stands)
 
     -- a key was destroyed
-    pub destroyed_leads : (new : D) (last : List CellState) (keys' : Keys) (cell id : ℕ) → cell < 512 → has_id id (cell_state states cell) ≡ true → last ≡ set (settled_states states') cell Free → IsPut keys keys' id None
+    pub destroyed_leads : (new : D) (last : List CellState) (keys' : Keys) (cell id : ℕ) → cell < cell_count → has_id id (cell_state states cell) ≡ true → last ≡ set (settled_states states') cell Free → IsPut keys keys' id None
         → ((contents : List Content) (bytes : List ℕ) → content_at contents cell ≡ Present bytes → cells.StandsForContents disks mid states' contents → Moves disks mid new states' last contents (set (settled contents) cell Absent))
         → Leads disks old new states last keys doubt keys' []
     destroyed_leads new last keys' cell id lt has is put destroyed =
@@ -133,7 +133,7 @@ module _ {D : Type 0} (disks : Disk.Ghosts D) where
         (resettles keys [] states' (settled_states states') (settled sure) (settled_twice states') (surer_filed []))))
 
     -- it failed once the others were closed, and the key is in doubt
-    pub undestroyed_leads : (new : D) (last : List CellState) (keys' : Keys) (cell id : ℕ) (key : Stored) → cell < 512 → has_id id (cell_state states cell) ≡ true → settled_states last ≡ set (settled_states states') cell Free → IsPut keys keys' id None → keys id ≡ Some key
+    pub undestroyed_leads : (new : D) (last : List CellState) (keys' : Keys) (cell id : ℕ) (key : Stored) → cell < cell_count → has_id id (cell_state states cell) ≡ true → settled_states last ≡ set (settled_states states') cell Free → IsPut keys keys' id None → keys id ≡ Some key
         → ((contents : List Content) (bytes : List ℕ) → content_at contents cell ≡ Present bytes → cells.StandsForContents disks mid states' contents
         → MovesEither disks mid new states' last contents (set contents cell (Doubtful bytes)) (set (settled contents) cell (Doubtful bytes)))
         → Leads disks old new states last keys doubt keys' ((key.attributes, key.bytes) ∷ [])
@@ -145,7 +145,7 @@ module _ {D : Type 0} (disks : Disk.Ghosts D) where
         let same_key : key ≡ stored o.0 o.2 o.3 = cc in
         let d : IsDoubted doubt' o.2 o.3 = inl (ap (λ (k : Stored). k.attributes) same_key, ap (λ (k : Stored). k.bytes) same_key) in
         let closed : settled_states last ≡ settled_states (set states' cell Free) = alike ∙ sym (map-set settled_state states' cell Free) in
-        let go : (contents : List Content) → length contents ≡ 512 → IsFiled keys doubt' states' contents → content_at contents cell ≡ Present o.1 → IsFiled keys' doubt' last (set contents cell (Doubtful o.1)) = λ contents count f at.
+        let go : (contents : List Content) → length contents ≡ cell_count → IsFiled keys doubt' states' contents → content_at contents cell ≡ Present o.1 → IsFiled keys' doubt' last (set contents cell (Doubtful o.1)) = λ contents count f at.
         resettles keys' doubt' (set states' cell Free) last (set contents cell (Doubtful o.1)) closed (removes keys keys' doubt' doubt' states' contents cell id Free (Doubtful o.1) count lt has' refl (o.2, o.3, o.6, d) (λ q is. subst (λ (c : Content). IsOf q c) (sym at) is) (λ i b z. z) put f) in
         ⊎_elim
         (λ m. goes_on new last (set sure cell (Doubtful o.1)) keys' doubt' m (go sure settling.stands.count (sure_filed doubt') o.5))
@@ -153,7 +153,7 @@ module _ {D : Type 0} (disks : Disk.Ghosts D) where
         (failed sure o.1 o.5 settling.stands)
 
   -- it failed before the others were closed, and the key is in doubt like them
-  pub unreached_leads : (old mid new : D) (states states' last : List CellState) (keys keys' : Keys) (doubt : Doubt) (cell id : ℕ) (key : Stored) → cell < 512 → has_id id (cell_state states cell) ≡ true → settled_states states' ≡ settled_states states → new ≡ mid → last ≡ set states' cell Unsure
+  pub unreached_leads : (old mid new : D) (states states' last : List CellState) (keys keys' : Keys) (doubt : Doubt) (cell id : ℕ) (key : Stored) → cell < cell_count → has_id id (cell_state states cell) ≡ true → settled_states states' ≡ settled_states states → new ≡ mid → last ≡ set states' cell Unsure
       → IsPut keys keys' id None → keys id ≡ Some key → cells.KeepsContents disks old mid states states'
       → ((contents : List Content) (bytes : List ℕ) → content_at contents cell ≡ Present bytes → cells.StandsForContents disks mid states' contents → cells.StandsForContents disks new last (set contents cell (Doubtful bytes)))
       → StandsForKeys disks old states keys doubt → Leads disks old new states last keys doubt keys' ((key.attributes, key.bytes) ∷ doubt)
@@ -165,7 +165,7 @@ module _ {D : Type 0} (disks : Disk.Ghosts D) where
       let same_key : key ≡ stored o.0 o.2 o.3 = cc in
       let d : IsDoubted doubt' o.2 o.3 = inl (ap (λ (k : Stored). k.attributes) same_key, ap (λ (k : Stored). k.bytes) same_key) in
       let m = keeps c s.stands in
-      let sized' : length states' ≡ 512 = count_same states states' 512 same s.filed.sized in
+      let sized' : length states' ≡ cell_count = count_same states states' cell_count same s.filed.sized in
       let unsure : cell_state last cell ≡ Unsure = ap (λ (l : List CellState). cell_state l cell) is ∙ get_or-set_same states' cell Unsure Free (omega (arith, sized', lt)) in
       let free = free_set_after states states' last cell Unsure is (not_free_as last cell Unsure unsure (λ e. cc)) in
       let to = set c cell (Doubtful o.1) in

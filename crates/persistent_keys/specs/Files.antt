@@ -5,7 +5,7 @@ use Rattle.disk_face.specs.Moments.{Within}
 use Rattle.key_attributes.specs.declared.Attributes.{Attributes}
 use Rattle.key_cells.specs.declared.state.CellState.{CellState}
 use Rattle.key_cells.specs.declared.state.CellState.TheVariants.{Free, Open, Shut, Unsure}
-use Rattle.key_cells.specs.Prelude.{body, Content, Absent, Present, Doubtful, HasZeros, cell_state, content_at, has_id, creation_of_state, HoldsKey, HoldsId, Opens, HasKey}
+use Rattle.key_cells.specs.Prelude.{body, Content, Absent, Present, Doubtful, HasZeros, cell_state, content_at, has_id, creation_of_state, HoldsKey, HoldsId, Opens, HasKey, cell_count}
 use Rattle.key_cells.specs.Contents as cells
 use Rattle.persistent_keys.specs.declared.file.MakeFault.{MakeFault}
 use Rattle.persistent_keys.specs.declared.file.MakeFault.TheVariants.{Full, Disk}
@@ -65,10 +65,10 @@ IsOf id (Doubtful body) = HoldsId id body
 -- each key is in exactly one open cell, which has its record; what else may be there is in doubt; no two cells have
 -- the same identifier
 pub record IsFiled (keys : Keys) (doubt : Doubt) (states : List CellState) (contents : List Content) : Type 0 where
-  pub sized : length states ≡ 512
-  pub each : (cell : ℕ) → cell < 512 → TellsCell keys doubt (cell_state states cell) (content_at contents cell)
-  pub found : (id : ℕ) (key : Stored) → keys id ≡ Some key → (cell : ℕ) × (cell < 512) × (has_id id (cell_state states cell) ≡ true)
-  pub apart : (id cell other : ℕ) → cell < 512 → other < 512 → IsOf id (content_at contents cell) → IsOf id (content_at contents other) → cell ≡ other
+  pub sized : length states ≡ cell_count
+  pub each : (cell : ℕ) → cell < cell_count → TellsCell keys doubt (cell_state states cell) (content_at contents cell)
+  pub found : (id : ℕ) (key : Stored) → keys id ≡ Some key → (cell : ℕ) × (cell < cell_count) × (has_id id (cell_state states cell) ≡ true)
+  pub apart : (id cell other : ℕ) → cell < cell_count → other < cell_count → IsOf id (content_at contents cell) → IsOf id (content_at contents other) → cell ≡ other
 
 -- a disk whose bytes are told, and a directory, stand for keys
 pub record StandsForKeys {D : Type 0} (disks : Disk.Ghosts D) (disk : D) (states : List CellState) (keys : Keys) (doubt : Doubt) : Type 0 where
@@ -84,7 +84,7 @@ FitsEitherKeys keys doubt keys' doubt' image = FitsKeys keys doubt image ⊎ Fit
 pub record Leads {D : Type 0} (disks : Disk.Ghosts D) (old new : D) (states states' : List CellState) (keys : Keys) (doubt : Doubt) (keys' : Keys) (doubt' : Doubt) : Type 0 where
   pub stands : StandsForKeys disks new states' keys' doubt'
   pub within : Within (disks.moment old) (disks.moment new) (disks.left_since old) (disks.left_since new) (FitsEitherKeys keys doubt keys' doubt')
-  pub zeros : (cell : ℕ) → cell < 512 → cell_state states cell ≡ Free → cell_state states' cell ≡ Free → Within (disks.moment old) (disks.moment new) (disks.left_since old) (disks.left_since new) (HasZeros cell)
+  pub zeros : (cell : ℕ) → cell < cell_count → cell_state states cell ≡ Free → cell_state states' cell ≡ Free → Within (disks.moment old) (disks.moment new) (disks.left_since old) (disks.left_since new) (HasZeros cell)
 
 -- keys that differ at one identifier
 abbrev pub IsPut : Keys → Keys → ℕ → Option Stored → Type 0
@@ -104,5 +104,5 @@ doubt_unmade (Disk false) a bytes doubt = doubt
 -- The keys that an opening found: each stands in the cell that the directory has for it, under its number.
 pub record AreFound (image : List ℕ) (states : List CellState) (keys : Keys) : Type 0 where
   pub there : (id : ℕ) (key : Stored) → keys id ≡ Some key →
-      (cell : ℕ) × (cell < 512) × (has_id id (cell_state states cell) ≡ true) × HoldsKey key.attributes key.bytes (body cell image) × (key.creation ≡ creation_of_state (cell_state states cell))
-  pub all : (id cell : ℕ) → cell < 512 → has_id id (cell_state states cell) ≡ true → (key : Stored) × (keys id ≡ Some key)
+      (cell : ℕ) × (cell < cell_count) × (has_id id (cell_state states cell) ≡ true) × HoldsKey key.attributes key.bytes (body cell image) × (key.creation ≡ creation_of_state (cell_state states cell))
+  pub all : (id cell : ℕ) → cell < cell_count → has_id id (cell_state states cell) ≡ true → (key : Stored) × (keys id ≡ Some key)

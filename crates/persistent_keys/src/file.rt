@@ -4,7 +4,7 @@ ghost use Rattle.psa_status.specs.Causes.{HasCause, Rose};
 ghost use Rattle.disk_face.specs.Disk.{StillTells};
 ghost use Rattle.key_cells.specs.Contents.{StaysFree, StaysFreeBut};
 ghost use Rattle.key_cells.specs.declared.state.CellState.TheVariants.{Free, Open};
-ghost use Rattle.key_cells.specs.Prelude.{Calm, HasNoKey, IsFirstWithKey, IsFirstWithoutKey, IsFull, IsSure, has_id, is_open, creation_of_state, settled_states, cell_state, IsKeyOf, IsOpened, IsOpeningRefused};
+ghost use Rattle.key_cells.specs.Prelude.{Calm, HasNoKey, IsFirstWithKey, IsFirstWithoutKey, IsFull, IsSure, has_id, is_open, creation_of_state, settled_states, cell_state, IsKeyOf, IsOpened, IsOpeningRefused, cell_count, store_size};
 ghost use Rattle.persistent_keys.specs.Files.{stored, Keys, Doubt, AreFound};
 ghost use Rattle.persistent_keys.specs.Calls.{StandsForThese, HasStored, KeepsFile, PutsInFile, LeavesUnmade, LeavesUndestroyed};
 ghost use Rattle.persistent_keys.specs.declared.file.MakeFault.TheVariants.{Disk};
@@ -38,8 +38,8 @@ pub enum MakeFault {
 impl<D: Disk> KeyFile<D> {
     /// Opens the file of a disk, or makes one on a disk of length 0. Nothing is in doubt then.
     pub fn open(alloc: Global, disk: D) -> Result<KeyFile<D>, (D, OpenFault)>
-        ensures size { IfOk result (λ file. D.size file.cells.disk ≡ 557120) }
-        ensures states { IfOk result (λ file. length file.cells.states.items ≡ 512) }
+        ensures size { IfOk result (λ file. D.size file.cells.disk ≡ store_size) }
+        ensures states { IfOk result (λ file. length file.cells.states.items ≡ cell_count) }
         ensures opened { IfOk result (λ file. IsOpened D.Disk disk file.cells.disk file.cells.states.items) }
         ensures keys { IfOk result (λ file. IfSome (D.contents disk) (λ image. (keys : Keys) → AreFound image file.cells.states.items keys →
             StandsForThese D.Disk file keys [])) }
@@ -63,11 +63,11 @@ impl<D: Disk> KeyFile<D> {
     /// The attributes of a key, and its bytes, which come into the buffer. After a refusal the buffer is clear. `Disk` only
     /// where the disk's faults rose; over a disk that tells its bytes, `Corrupt` never comes.
     pub fn load(&mut self, id: u32, cell: usize, out: &mut Secret) -> Result<Attributes, CellFault>
-        requires size { D.size self.old.cells.disk ≡ 557120 }
-        requires states { length self.old.cells.states.items ≡ 512 }
-        requires within { cell < 512 }
+        requires size { D.size self.old.cells.disk ≡ store_size }
+        requires states { length self.old.cells.states.items ≡ cell_count }
+        requires within { cell < cell_count }
         requires key { has_id id (cell_state self.old.cells.states.items cell) ≡ true }
-        ensures size { D.size self.new.cells.disk ≡ 557120 }
+        ensures size { D.size self.new.cells.disk ≡ store_size }
         ensures states { self.new.cells.states ≡ self.old.cells.states }
         ensures same { D.contents self.new.cells.disk ≡ D.contents self.old.cells.disk }
         ensures calm { Calm D.Disk self.old.cells.disk self.new.cells.disk }
@@ -94,12 +94,12 @@ impl<D: Disk> KeyFile<D> {
         attributes: &Attributes,
         bytes: &[u8],
     ) -> Result<(), MakeFault>
-        requires size { D.size self.old.cells.disk ≡ 557120 }
-        requires states { length self.old.cells.states.items ≡ 512 }
+        requires size { D.size self.old.cells.disk ≡ store_size }
+        requires states { length self.old.cells.states.items ≡ cell_count }
         requires key { IsKeyOf attributes.now bytes.now }
         requires none { HasNoKey self.old.cells.states.items attributes.now.id.0 }
-        ensures size { D.size self.new.cells.disk ≡ 557120 }
-        ensures states { length self.new.cells.states.items ≡ 512 }
+        ensures size { D.size self.new.cells.disk ≡ store_size }
+        ensures states { length self.new.cells.states.items ≡ cell_count }
         ensures made { OnOk result (PutsInFile D.Disk self.old self.new attributes.now.id.0 (Some (stored creation attributes.now bytes.now))) }
         ensures failed { IfErr result (λ fault. LeavesUnmade D.Disk self.old self.new fault attributes.now bytes.now) }
         ensures placed { OnOk result ((cell : ℕ) × IsFirstWithoutKey self.old.cells.states.items cell ×
@@ -131,12 +131,12 @@ impl<D: Disk> KeyFile<D> {
 
     /// Destroys the key of a cell. After a fault it is gone or in doubt.
     pub fn destroy(&mut self, id: u32, cell: usize) -> Result<(), Unclosed>
-        requires size { D.size self.old.cells.disk ≡ 557120 }
-        requires states { length self.old.cells.states.items ≡ 512 }
-        requires within { cell < 512 }
+        requires size { D.size self.old.cells.disk ≡ store_size }
+        requires states { length self.old.cells.states.items ≡ cell_count }
+        requires within { cell < cell_count }
         requires key { has_id id (cell_state self.old.cells.states.items cell) ≡ true }
-        ensures size { D.size self.new.cells.disk ≡ 557120 }
-        ensures states { length self.new.cells.states.items ≡ 512 }
+        ensures size { D.size self.new.cells.disk ≡ store_size }
+        ensures states { length self.new.cells.states.items ≡ cell_count }
         ensures gone { OnOk result (self.new.cells.states.items ≡ set (settled_states self.old.cells.states.items) cell Free) }
         ensures missing { settled_states self.new.cells.states.items ≡ set (settled_states self.old.cells.states.items) cell Free }
         ensures free { StaysFree self.old.cells.states.items self.new.cells.states.items }

@@ -1,5 +1,5 @@
 -- A store with one key more.
-use Rattle.store_core.proofs.Common.{[], ap, arith, Attributes, Bool, bytes-buffer_of, cases_eq, cell_state, CellState, cond, count_persistent, counted, created, durable_keys, eq-eqb, eqb-true, false, false≢true, first_volatile, Free, full_slot, get_or-set_other, get_or-set_same, has_secure_element, held_key, HeldKey, HeldKeys, HoldsHandle, HoldsKeys, identified, inl, inr, is_opaque, is_open, is_volatile, is_volatile_of, IsDirectory, IsFirstWithoutKey, IsPut, IsSomeKey, IsSoundStore, IsStated, IsThereOrNew, kept, Key, Lacks, le-ltb, len_kept-insert, length, length-map, List, live_volatile, lt-ltb, made_of, made_with, map_get, map_get-insert, map_len, MayBeKept, Model, nat_cmp_total, nat_lt, ne_eqb, new_id, new_is_free, new_key, next_volatile, None, none-some, of_volatile, Open, Option, option_map, put, Puts, refl, retain_keys, room_of, same_Some, set, settled_state, settled_states, slice_index, slice_set, SlotHasKey, Some, stated_id, stored, subst, sym, true, unsigned_tied, with_held_key, ℕ, ◌+◌, ◌/◌, ◌<◌, ◌==◌, ◌^◌, ◌∙◌, ◌≡◌, ◌≢◌, ◌≤◌, ◌⊎◌}
+use Rattle.store_core.proofs.Common.{[], ap, arith, Attributes, Bool, bytes-buffer_of, cases_eq, cell_state, CellState, cond, count_persistent, counted, created, durable_keys, eq-eqb, eqb-true, false, false≢true, first_volatile, Free, full_slot, get_or-set_other, get_or-set_same, has_secure_element, held_key, HeldKey, HeldKeys, HoldsHandle, HoldsKeys, identified, inl, inr, is_opaque, is_open, is_volatile, is_volatile_of, IsDirectory, IsFirstWithoutKey, IsPut, IsSomeKey, IsSoundStore, IsStated, IsThereOrNew, kept, Key, Lacks, le-ltb, len_kept-insert, length, length-map, List, live_volatile, lt-ltb, made_of, made_with, map_get, map_get-insert, map_len, MayBeKept, Model, nat_cmp_total, nat_lt, ne_eqb, new_id, new_is_free, new_key, next_volatile, None, none-some, of_volatile, Open, Option, option_map, put, Puts, refl, retain_keys, room_of, same_Some, set, settled_state, settled_states, slice_index, slice_set, SlotHasKey, Some, stated_id, stored, subst, sym, true, unsigned_tied, with_held_key, ℕ, ◌+◌, ◌/◌, ◌<◌, ◌==◌, ◌^◌, ◌∙◌, ◌≡◌, ◌≢◌, ◌≤◌, ◌⊎◌, cell_count}
 use Rattle.store_core.proofs.Kept.{HasCellKey}
 use Rattle.store_core.proofs.Removing.{settled_at, settled_opens}
 
@@ -115,7 +115,7 @@ module _ (m : Model) (caller : ℕ) (recorded : Attributes) (bytes : List ℕ) (
     pub none_stated : map_get m.keys recorded.id.0 ≡ None
     none_stated = ap (map_get m.keys) (sym (stated_here is)) ∙ none_here
 
-    pub few_kept : count_persistent m.keys < 512
+    pub few_kept : count_persistent m.keys < cell_count
     few_kept = (room_of m caller recorded false is may.room).1
 
     is_low : nat_lt id 0x40000000 ≡ true
@@ -146,12 +146,12 @@ module _ (m : Model) (caller : ℕ) (recorded : Attributes) (bytes : List ℕ) (
     not_new : (q : ℕ) (k : Key) → map_get m.keys q ≡ Some k → q ≡ id → ⊥
     not_new q k e same = none-some k (sym none_here ∙ (ap (map_get m.keys) (sym same) ∙ e))
 
-    in_cell : (q : ℕ) (k : Key) → IsOldOrNew q k → is_volatile k.attributes ≡ false → (c : ℕ) × (c < 512) × (cell_state slots c ≡ Open q k.number)
+    in_cell : (q : ℕ) (k : Key) → IsOldOrNew q k → is_volatile k.attributes ≡ false → (c : ℕ) × (c < cell_count) × (cell_state slots c ≡ Open q k.number)
     in_cell q k (inl here) lasts = absurd (false≢true (sym lasts ∙ (ap (λ (x : Key). is_volatile x.attributes) (sym here.1) ∙ is)))
     in_cell q k (inr old) lasts = d.there q k old.1 lasts
 
   -- a persistent one has the first cell that had none
-  module _ (slots slots' : List CellState) (c : ℕ) (is : is_volatile recorded ≡ false) (d : IsDirectory slots m) (without : IsFirstWithoutKey slots c) (sized : length slots' ≡ 512)
+  module _ (slots slots' : List CellState) (c : ℕ) (is : is_volatile recorded ≡ false) (d : IsDirectory slots m) (without : IsFirstWithoutKey slots c) (sized : length slots' ≡ cell_count)
       (placed : slots' ≡ set (settled_states slots) c (Open recorded.id.0 (m.found + m.calls))) where
     inside : c < length (settled_states slots)
     inside = let lt = without.within in omega (arith, lt, length-map slots settled_state)
@@ -189,16 +189,16 @@ module _ (m : Model) (caller : ℕ) (recorded : Attributes) (bytes : List ℕ) (
       only = λ x q n lt at. of_cell x q n lt (open_cell x q n at);
       one = λ x other q n another lt less at also. same_cell x other q n another lt less (open_cell x q n at) (open_cell other q another also);
     } where
-      in_cell : (q : ℕ) (k : Key) → IsOldOrNew q k → is_volatile k.attributes ≡ false → (x : ℕ) × (x < 512) × (cell_state slots' x ≡ Open q k.number)
+      in_cell : (q : ℕ) (k : Key) → IsOldOrNew q k → is_volatile k.attributes ≡ false → (x : ℕ) × (x < cell_count) × (cell_state slots' x ≡ Open q k.number)
       in_cell q k (inl here) lasts = let lt = without.within in let n = d.sized in
           (c, omega arith, at_c ∙ (ap (λ i. Open i (m.found + m.calls)) (sym (stated_here is) ∙ sym here.0) ∙ ap (λ (x : Key). Open q x.number) here.1))
       in_cell q k (inr old) lasts = let x = d.there q k old.1 lasts in (x.0, x.1, elsewhere x.0 (not_first x.0 q k.number x.2) ∙ ap settled_state x.2)
 
-      of_cell : (x q n : ℕ) → x < 512 → IsOpenCell x q n → HasCellKey after q n
+      of_cell : (x q n : ℕ) → x < cell_count → IsOpenCell x q n → HasCellKey after q n
       of_cell x q n lt (inl here) = (new, ap (map_get after.keys) (here.1 ∙ sym (stated_here is)) ∙ put_here, is, sym here.2)
       of_cell x q n lt (inr old) = let k = d.only x q n lt old.1 in (k.0, put_other q (λ same. not_new q k.0 k.1 (same ∙ stated_here is)) ∙ k.1, k.2, k.3)
 
-      same_cell : (x other q n another : ℕ) → x < 512 → other < 512 → IsOpenCell x q n → IsOpenCell other q another → x ≡ other
+      same_cell : (x other q n another : ℕ) → x < cell_count → other < cell_count → IsOpenCell x q n → IsOpenCell other q another → x ≡ other
       same_cell x other q n another lt less (inl one) (inl two) = one.0 ∙ sym two.0
       same_cell x other q n another lt less (inl one) (inr two) = let k = d.only other q another less two.1 in absurd (not_new q k.0 k.1 one.1)
       same_cell x other q n another lt less (inr one) (inl two) = let k = d.only x q n lt one.1 in absurd (not_new q k.0 k.1 two.1)

@@ -1,5 +1,5 @@
 -- A ranked turn that changes keys.
-use Rattle.store_core.proofs.Common.{[], AdmissionGhosts, after, Agrees, allowed_go_on, ap, AreHoldings, arith, cell_state, ChangesFreed, count_persistent, counted, counted_sound, Course, course_of, DevicesGhosts, DiskGhosts, doubt_after, durable_keys, Entry, false, FaultCounts, FaultMark, FitsCourse, FitsKeys, Free, go_on, HasFault, HasZeros, HaveFreed, Holds, HoldsKeys, inl, inr, is_destruction, is_persistent_key, is_some, IsCaused, IsDirectory, IsEntry, IsFreeSince, IsSoundStore, IsSure, IsTold, key_changed, KeyFile, KeySlots, last_counts, Leads, LeavesKeys, length-append, List, live_volatile, MayBeMarked, Model, None, opened, Opening, Option, outcome_of, Pairs, Plain, promise_goes_on, quiet, refl, replay, Service, slice_index, stands_fits, StandsFor, StandsForKeys, stays, Store, subst, sym, true, Within, ℕ, ⊎_elim, ⊤, ◌++◌, ◌+◌, ◌<◌, ◌∙◌, ◌∷◌, ◌≡◌, ◌≤◌, ◌⊎◌}
+use Rattle.store_core.proofs.Common.{[], AdmissionGhosts, after, Agrees, allowed_go_on, ap, AreHoldings, arith, cell_state, ChangesFreed, count_persistent, counted, counted_sound, Course, course_of, DevicesGhosts, DiskGhosts, doubt_after, durable_keys, Entry, false, FaultCounts, FaultMark, FitsCourse, FitsKeys, Free, go_on, HasFault, HasZeros, HaveFreed, Holds, HoldsKeys, inl, inr, is_destruction, is_persistent_key, is_some, IsCaused, IsDirectory, IsEntry, IsFreeSince, IsSoundStore, IsSure, IsTold, key_changed, KeyFile, KeySlots, last_counts, Leads, LeavesKeys, length-append, List, live_volatile, MayBeMarked, Model, None, opened, Opening, Option, outcome_of, Pairs, Plain, promise_goes_on, quiet, refl, replay, Service, slice_index, stands_fits, StandsFor, StandsForKeys, stays, Store, subst, sym, true, Within, ℕ, ⊎_elim, ⊤, ◌++◌, ◌+◌, ◌<◌, ◌∙◌, ◌∷◌, ◌≡◌, ◌≤◌, ◌⊎◌, cell_count}
 use Rattle.store_core.proofs.Histories.{replay_push, counts_push, told_before, course_service, course_push, quiet_doubt}
 use Rattle.store_core.proofs.Holding.{counts_of, same_device, same_directory, turned}
 use Rattle.store_core.proofs.Wiped.{shows_free}
@@ -91,7 +91,7 @@ module _ {D A C : Type 0} (disks : DiskGhosts D) (elements : DevicesGhosts A) (a
         each = λ at image le left. ⊎_elim (λ had. inl had) (λ fits. inr (⊎_elim (λ f. inl (fits_old image f)) (λ f. inr (fits_new image f)) fits)) (leads_here.within.each at image le left);
       }
 
-      free_now : (cell : ℕ) → cell < 512 → cell_state new.file.cells.states.items cell ≡ Free → (image : List ℕ) → disks.left_since now (disks.moment now) image → HasZeros cell image
+      free_now : (cell : ℕ) → cell < cell_count → cell_state new.file.cells.states.items cell ≡ Free → (image : List ℕ) → disks.left_since now (disks.moment now) image → HasZeros cell image
       free_now cell lt free image left = shows_free _ _ _ _ free ((leads_here.stands.stands.each image (only_now now image left)).each cell lt)
 
       fits_now : (image : List ℕ) → disks.left_since now (disks.moment now) image → FitsCourse (after e course) image
@@ -126,7 +126,7 @@ module _ {D A C : Type 0} (disks : DiskGhosts D) (elements : DevicesGhosts A) (a
           labels_are = ap (λ (x : Model). x.settings.labels) t.counts ∙ (s.labels_are ∙ sym (ap admits.labels t.goes_on.rules));
           locations_are = ap (λ (x : Model). x.settings.locations) t.counts ∙ (s.locations_are ∙ sym t.places);
           found = ap (λ (x : Model). x.found) t.counts ∙ (s.found ∙ sym t.goes_on.found);
-          few = subst (λ n. n ≤ 512) (sym t.goes_on.found) s.few;
+          few = subst (λ n. n ≤ cell_count) (sym t.goes_on.found) s.few;
           calls = ap (λ (x : Model). x.calls) t.counts ∙ (ap (λ n. n + 1) s.calls ∙ sym t.goes_on.ranked);
           made = t.made;
           live = t.live;

@@ -1,5 +1,5 @@
 -- What the table of creations has decided of a key that is to be made.
-use Rattle.store_core.proofs.Common.{Agrees, and_from, and_parts, ap, arith, attribute_rows, Attributes, bit_and, Bool, cell_state, CellState, checked, cond, count_persistent, creation_of_state, eq-eqb, eqb-true, false, false_from_ne_true, false≢true, filled, first_row, FitsRecord, full_within, has_id, has_secure_element, HasNoKey, holds_key, implied_usage, InvalidArgument, is_key_type, is_lifetime, is_opaque, is_open, is_some, is_volatile, IsDirectory, IsFull, IsKeyOf, IsSoundStore, IsStated, key_is_full, key_of_slot, length, List, location, low_id, lt-ltb, map_get, map_get-retain_keys, Model, nat_lt, nat_tests, ne_eqb, NoKey, None, none-some, none_holds, not, not-false, NotSupported, Ok, Open, or_cases, Pairs, permits_size, persistence, ranked, refl, retain_keys, size_rows, Slot, slot_at, Some, stated_id, subst, sym, true, unless, unless-ok, ℕ, ⊎_elim, ◌%◌, ◌&&◌, ◌*◌, ◌/◌, ◌<◌, ◌==◌, ◌^◌, ◌||◌, ◌∙◌, ◌≡◌, ◌≢◌, ◌≤◌}
+use Rattle.store_core.proofs.Common.{Agrees, and_from, and_parts, ap, arith, attribute_rows, Attributes, bit_and, Bool, cell_state, CellState, checked, cond, count_persistent, creation_of_state, eq-eqb, eqb-true, false, false_from_ne_true, false≢true, filled, first_row, FitsRecord, full_within, has_id, has_secure_element, HasNoKey, holds_key, implied_usage, InvalidArgument, is_key_type, is_lifetime, is_opaque, is_open, is_some, is_volatile, IsDirectory, IsFull, IsKeyOf, IsSoundStore, IsStated, key_is_full, key_of_slot, length, List, location, low_id, lt-ltb, map_get, map_get-retain_keys, Model, nat_lt, nat_tests, ne_eqb, NoKey, None, none-some, none_holds, not, not-false, NotSupported, Ok, Open, or_cases, Pairs, permits_size, persistence, ranked, refl, retain_keys, size_rows, Slot, slot_at, Some, stated_id, subst, sym, true, unless, unless-ok, ℕ, ⊎_elim, ◌%◌, ◌&&◌, ◌*◌, ◌/◌, ◌<◌, ◌==◌, ◌^◌, ◌||◌, ◌∙◌, ◌≡◌, ◌≢◌, ◌≤◌, cell_count}
 use Rattle.std.specs.declared.cmp.Ordering.TheVariants.{Equal}
 use Rattle.key_slots.proofs.Sums.{total-least, into_map}
 use Rattle.store_core.proofs.Kept.{key_of_cell}
@@ -102,15 +102,15 @@ abbrev is_low : ℕ → Bool
 is_low n = nat_lt n 0x40000000
 
 -- where each cell has a key there are as many persistent keys as cells
-pub full_counts : (slots : List CellState) (m : Model) → IsDirectory slots m → IsSoundStore m → IsFull slots → 512 ≤ count_persistent m.keys
+pub full_counts : (slots : List CellState) (m : Model) → IsDirectory slots m → IsSoundStore m → IsFull slots → cell_count ≤ count_persistent m.keys
 full_counts slots m d sound full =
-    let fit = into_map (retain_keys m.keys is_low) (λ c. id_in (cell_state slots c)) (λ c. is_open (cell_state slots c)) 512 has one in
-    let least = total-least (λ c. cond (is_open (cell_state slots c)) 1 0) 512 (λ c lt. let sized = d.sized in subst (λ b. 1 ≤ cond b 1 0) (sym (full c (omega arith))) (omega arith)) in
+    let fit = into_map (retain_keys m.keys is_low) (λ c. id_in (cell_state slots c)) (λ c. is_open (cell_state slots c)) cell_count has one in
+    let least = total-least (λ c. cond (is_open (cell_state slots c)) 1 0) cell_count (λ c lt. let sized = d.sized in subst (λ b. 1 ≤ cond b 1 0) (sym (full c (omega arith))) (omega arith)) in
     omega arith where
       kept : (q : ℕ) → map_get (retain_keys m.keys is_low) q ≡ cond (is_low q) (map_get m.keys q) None
       kept q = map_get-retain_keys m.keys is_low q (λ x tied. ap is_low (sym (ranked q x Equal (sym tied))))
 
-      has : (c : ℕ) → c < 512 → is_open (cell_state slots c) ≡ true → is_some (map_get (retain_keys m.keys is_low) (id_in (cell_state slots c))) ≡ true
+      has : (c : ℕ) → c < cell_count → is_open (cell_state slots c) ≡ true → is_some (map_get (retain_keys m.keys is_low) (id_in (cell_state slots c))) ≡ true
       has c lt is =
           let id = id_in (cell_state slots c) in
           let key = d.only c id (creation_of_state (cell_state slots c)) lt (opens_so (cell_state slots c) is) in
@@ -119,7 +119,7 @@ full_counts slots m d sound full =
           let named = k.identifier in
           ap is_some (kept id ∙ (ap (λ b. cond b (map_get m.keys id) None) (lt-ltb id 0x40000000 (omega arith)) ∙ key.1))
 
-      one : (c other : ℕ) → c < 512 → other < 512 → is_open (cell_state slots c) ≡ true → is_open (cell_state slots other) ≡ true → id_in (cell_state slots c) ≡ id_in (cell_state slots other) → c ≡ other
+      one : (c other : ℕ) → c < cell_count → other < cell_count → is_open (cell_state slots c) ≡ true → is_open (cell_state slots other) ≡ true → id_in (cell_state slots c) ≡ id_in (cell_state slots other) → c ≡ other
       one c other lt less is also same =
           d.one c other (id_in (cell_state slots other)) (creation_of_state (cell_state slots c)) (creation_of_state (cell_state slots other)) lt less
           (opens_so (cell_state slots c) is ∙ ap (λ n. Open n (creation_of_state (cell_state slots c))) same) (opens_so (cell_state slots other) also)

@@ -6,7 +6,7 @@ pub use Rattle.driver_dispatch.specs.Held.{HeldKey, HeldKeys, held_key, with_cop
 pub use Rattle.key_attributes.specs.Checks.{attribute_rows, checked, filled, implied_usage, is_key_type, is_lifetime, is_stated_id, location, permits_size, persistence, size_rows}
 pub use Rattle.key_attributes.specs.declared.Attributes.{Attributes}
 pub use Rattle.key_cells.proofs.CellsRead.{content_there, for_told, some_weaker}
-pub use Rattle.key_cells.specs.Prelude.{Absent, Content, Doubtful, Finds, FitsRecord, HasKey, HasNoKey, HasOneEach, HasZeros, HoldsId, HoldsKey, IsFirstWithoutKey, IsFoundIn, IsFull, IsKeyOf, IsNamed, IsNumbered, IsOpened, IsPersistent, IsOpeningRefused, IsSure, Present, Shows, Sound, StandsForContents, body, cell_state, closed, content_at, content_of, creation_of_state, found_in, gate, has_id, is_open, opened_gate, place, settled_state, settled_states}
+pub use Rattle.key_cells.specs.Prelude.{Absent, Content, Doubtful, Finds, FitsRecord, HasKey, HasNoKey, HasOneEach, HasZeros, HoldsId, HoldsKey, IsFirstWithoutKey, IsFoundIn, IsFull, IsKeyOf, IsNamed, IsNumbered, IsOpened, IsPersistent, IsOpeningRefused, IsSure, Present, Shows, Sound, StandsForContents, body, cell_count, cell_state, closed, content_at, content_of, creation_of_state, found_in, gate, has_id, is_open, opened_gate, place, settled_state, settled_states}
 unfoldable pub use Rattle.key_cells.specs.Prelude.{zeros}
 pub use Rattle.key_cells.specs.declared.reading.OpenFault.TheVariants.{Memory}
 pub use Rattle.key_cells.specs.declared.state.CellState.TheVariants.{Free, Open, Shut, Unsure}

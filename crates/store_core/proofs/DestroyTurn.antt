@@ -1,5 +1,5 @@
 -- A ranked turn that destroys a key.
-use Rattle.store_core.proofs.Common.{[], AdmissionGhosts, Agrees, ap, arith, cell_state, CellState, creation_of_state, Destroy, destroyed_sound, DevicesGhosts, DiskGhosts, Doubt, doubt_by, durable_keys, Entry, false, FaultMark, Free, has_id, HasFault, holds_key, inl, is_destruction, is_persistent_key, is_some, is_volatile, IsEntry, IsPut, IsSoundStore, IsSure, kept, Key, key_changed, key_of_slot, KeyFile, Keys, KeySlots, Leads, length, List, map_get, MayBeMarked, Model, None, not, OnStore, Opening, option_map, Pairs, Plain, Puts, ranked_on, refl, Service, set, settled_states, slice_index, slice_set, Slot, slot_at, SlotHasKey, Some, StandsFor, StandsForKeys, stays, Store, Stored, stored, subst, sym, true, without_key, ℕ, ◌++◌, ◌+◌, ◌-◌, ◌/◌, ◌<◌, ◌^◌, ◌∙◌, ◌∷◌, ◌≡◌, ◌⊎◌}
+use Rattle.store_core.proofs.Common.{[], AdmissionGhosts, Agrees, ap, arith, cell_state, CellState, creation_of_state, Destroy, destroyed_sound, DevicesGhosts, DiskGhosts, Doubt, doubt_by, durable_keys, Entry, false, FaultMark, Free, has_id, HasFault, holds_key, inl, is_destruction, is_persistent_key, is_some, is_volatile, IsEntry, IsPut, IsSoundStore, IsSure, kept, Key, key_changed, key_of_slot, KeyFile, Keys, KeySlots, Leads, length, List, map_get, MayBeMarked, Model, None, not, OnStore, Opening, option_map, Pairs, Plain, Puts, ranked_on, refl, Service, set, settled_states, slice_index, slice_set, Slot, slot_at, SlotHasKey, Some, StandsFor, StandsForKeys, stays, Store, Stored, stored, subst, sym, true, without_key, ℕ, ◌++◌, ◌+◌, ◌-◌, ◌/◌, ◌<◌, ◌^◌, ◌∙◌, ◌∷◌, ◌≡◌, ◌⊎◌, cell_count}
 use Rattle.store_core.proofs.Holding.{counts_of, same_device}
 use Rattle.store_core.proofs.Histories.{told_before}
 use Rattle.store_core.proofs.Kept.{key_of_cell}
@@ -53,9 +53,9 @@ module _ {D A C : Type 0} (disks : DiskGhosts D) (elements : DevicesGhosts A) (a
 
   -- what the file makes of a key that it destroys
   pub record IsUnfiled (file : KeyFile D) (mark : FaultMark) (c : ℕ) : Type 0 where
-    pub within : c < 512
+    pub within : c < cell_count
     pub key : has_id id (cell_state cells c) ≡ true
-    pub sized : length file.cells.states.items ≡ 512
+    pub sized : length file.cells.states.items ≡ cell_count
     pub missing : settled_states file.cells.states.items ≡ set (settled_states cells) c Free
     pub tells : is_some (disks.contents file.cells.disk) ≡ is_some (disks.contents disk)
     pub leads : (keys keys' : Keys) (doubt : Doubt) (key : Stored) → StandsForKeys disks disk cells keys doubt → keys id ≡ Some key → IsPut keys keys' id None →

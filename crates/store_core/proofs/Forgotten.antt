@@ -1,5 +1,5 @@
 -- What a device has of the keys that are destroyed.
-use Rattle.store_core.proofs.Common.{Agrees, ap, cell_state, CellState, cond, false, false_from_ne_true, false≢true, has_id, HeldKeys, holds_key, is_opaque, is_volatile, IsDirectory, IsForgotten, IsLawful, IsSoundStore, Key, key_of_slot, List, Model, Option, option_map, Pairs, same_Some, Slot, slot_at, subst, sym, Table, true, without_key, ℕ, ◌<◌, ◌∙◌, ◌≡◌}
+use Rattle.store_core.proofs.Common.{Agrees, ap, cell_state, CellState, cond, false, false_from_ne_true, false≢true, has_id, HeldKeys, holds_key, is_opaque, is_volatile, IsDirectory, IsForgotten, IsLawful, IsSoundStore, Key, key_of_slot, List, Model, Option, option_map, Pairs, same_Some, Slot, slot_at, subst, sym, Table, true, without_key, ℕ, ◌<◌, ◌∙◌, ◌≡◌, cell_count}
 use Rattle.store_core.proofs.ByElement.{opaque_is_volatile}
 use Rattle.store_core.proofs.Kept.{key_of_cell}
 
@@ -9,7 +9,7 @@ local_forgotten slot held local = sym (ap (λ b. cond b (option_map (without_key
 
 -- nor one of a key that a cell has
 pub kept_forgotten : (cells : List CellState) (slots : List Slot) (m : Model) (all : List Pairs) (id c i : ℕ) (held : Option HeldKeys) → IsDirectory cells m → IsSoundStore m → Agrees slots m all →
-    c < 512 → has_id id (cell_state cells c) ≡ true → i < 384 → holds_key id (slot_at slots i) ≡ true → IsForgotten (slot_at slots i) held held
+    c < cell_count → has_id id (cell_state cells c) ≡ true → i < 384 → holds_key id (slot_at slots i) ≡ true → IsForgotten (slot_at slots i) held held
 kept_forgotten cells slots m all id c i held d sound agrees within has lt holds = local_forgotten (slot_at slots i) held (false_from_ne_true (is_opaque (slot_at slots i).attributes) (λ opaque.
     let k = key_of_slot slots m all id i agrees lt holds in
     let own = key_of_cell cells m id c d within has in

@@ -1,5 +1,5 @@
 -- How the cells that a history has freed go on with a call.
-use Rattle.store_core.proofs.Common.{[], arith, Bool, cases_lt, cell_state, CellState, ChangesFreed, cond, DiskGhosts, Entry, eq-eqb, false, false≢true, FaultMark, Free, FreedCell, FreedCellsAreZeros, HasFreed, HasZeros, HaveFreed, inl, inr, is_destruction, is_persistent_key, IsFirstWithoutKey, IsFreeSince, IsZerosSince, key_changed, List, outcome_of, Plain, refl, replay, Service, subst, sym, true, Within, without_cell, ℕ, ⊎_elim, ◌++◌, ◌<◌, ◌==◌, ◌∙◌, ◌∷◌, ◌≡◌, ◌≢◌, ◌⊎◌}
+use Rattle.store_core.proofs.Common.{[], arith, Bool, cases_lt, cell_state, CellState, ChangesFreed, cond, DiskGhosts, Entry, eq-eqb, false, false≢true, FaultMark, Free, FreedCell, FreedCellsAreZeros, HasFreed, HasZeros, HaveFreed, inl, inr, is_destruction, is_persistent_key, IsFirstWithoutKey, IsFreeSince, IsZerosSince, key_changed, List, outcome_of, Plain, refl, replay, Service, subst, sym, true, Within, without_cell, ℕ, ⊎_elim, ◌++◌, ◌<◌, ◌==◌, ◌∙◌, ◌∷◌, ◌≡◌, ◌≢◌, ◌⊎◌, cell_count}
 use Rattle.std.specs.List.{AllByRecursion}
 use Rattle.key_cells.specs.Contents as contents
 
@@ -14,7 +14,7 @@ freed_push service (first ∷ h) e before mid after was step = (was.0, was.1, fr
 abbrev pub MovesFree : (persistent destroys : Bool) → FaultMark → (slots slots' : List CellState) → Type 0
 MovesFree false destroys mark slots slots' = contents.StaysFree slots slots'
 MovesFree true false mark slots slots' = contents.StaysFreeBut slots slots'
-MovesFree true true Plain slots slots' = contents.StaysFree slots slots' × (cell : ℕ) × (cell < 512) × (cell_state slots cell ≢ Free) × (cell_state slots' cell ≡ Free)
+MovesFree true true Plain slots slots' = contents.StaysFree slots slots' × (cell : ℕ) × (cell < cell_count) × (cell_state slots cell ≢ Free) × (cell_state slots' cell ≡ Free)
 MovesFree true true mark slots slots' = contents.StaysFree slots slots'
 
 -- where it leaves the directory, it destroys no persistent key
@@ -58,7 +58,7 @@ module _ {D : Type 0} (disks : DiskGhosts D) (old new : D) (slots slots' : List 
   abbrev IsWithin : ℕ → Type 0
   IsWithin cell = Within (disks.moment old) (disks.moment new) (disks.left_since old) (disks.left_since new) (HasZeros cell)
 
-  module _ (within : (cell : ℕ) → cell < 512 → cell_state slots cell ≡ Free → cell_state slots' cell ≡ Free → IsWithin cell) where
+  module _ (within : (cell : ℕ) → cell < cell_count → cell_state slots cell ≡ Free → cell_state slots' cell ≡ Free → IsWithin cell) where
     still : (f : FreedCell) → Was f → cell_state slots' f.cell ≡ Free → Is f
     still f was free =
         let calls = within f.cell was.zeros.0 was.free free in
@@ -81,7 +81,7 @@ module _ {D : Type 0} (disks : DiskGhosts D) (old new : D) (slots slots' : List 
         (but f.cell all.0.zeros.0 all.0.free)
 
     -- what a call makes of them
-    pub frees : ((cell : ℕ) → cell < 512 → cell_state slots' cell ≡ Free → (image : List ℕ) → disks.left_since new (disks.moment new) image → HasZeros cell image) →
+    pub frees : ((cell : ℕ) → cell < cell_count → cell_state slots' cell ≡ Free → (image : List ℕ) → disks.left_since new (disks.moment new) image → HasZeros cell image) →
         (persistent destroys : Bool) (mark : FaultMark) → MovesFree persistent destroys mark slots slots' → (freed : List FreedCell) → AllByRecursion Was freed →
         (after : List FreedCell) × ChangesFreed persistent destroys mark (disks.moment new) freed after × AllByRecursion Is after
     frees here false destroys mark moves freed all = (freed, refl, all_still moves freed all)

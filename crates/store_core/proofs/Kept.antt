@@ -1,5 +1,5 @@
 -- What the directory says of the keys, and keys as a file keeps them.
-use Rattle.store_core.proofs.Common.{[], and_parts, and_right, ap, arith, as_stated, attribute_rows, Attributes, bit_and, Bool, cell_state, CellState, checked, cond, cond-false, creation_of_state, eq-eqb, eqb-true, false, false≢true, filled, first_row, first_row-back, has_id, HasNoKey, identified, implied_usage, InvalidArgument, is_lifetime, is_opaque, is_persistent_key, is_stated_id, is_volatile, IsDirectory, IsKeyOf, IsVolatileKey, Key, length, List, map_get, Model, nat_le, nat_tests, None, not, NotSupported, Ok, Open, Option, persistence, refl, size_rows, Some, subst, sym, true, unless, unless-ok, ℕ, ◌&&◌, ◌*◌, ◌<◌, ◌==◌, ◌∙◌, ◌∷◌, ◌≡◌, ◌≤◌}
+use Rattle.store_core.proofs.Common.{[], and_parts, and_right, ap, arith, as_stated, attribute_rows, Attributes, bit_and, Bool, cell_state, CellState, checked, cond, cond-false, creation_of_state, eq-eqb, eqb-true, false, false≢true, filled, first_row, first_row-back, has_id, HasNoKey, identified, implied_usage, InvalidArgument, is_lifetime, is_opaque, is_persistent_key, is_stated_id, is_volatile, IsDirectory, IsKeyOf, IsVolatileKey, Key, length, List, map_get, Model, nat_le, nat_tests, None, not, NotSupported, Ok, Open, Option, persistence, refl, size_rows, Some, subst, sym, true, unless, unless-ok, ℕ, ◌&&◌, ◌*◌, ◌<◌, ◌==◌, ◌∙◌, ◌∷◌, ◌≡◌, ◌≤◌, cell_count}
 
 -- THE DIRECTORY
 
@@ -7,7 +7,7 @@ use Rattle.store_core.proofs.Common.{[], and_parts, and_right, ap, arith, as_sta
 abbrev pub HasCellKey : Model → (id number : ℕ) → Type 0
 HasCellKey m id number = (key : Key) × (map_get m.keys id ≡ Some key) × (is_volatile key.attributes ≡ false) × (key.number ≡ number)
 
-pub key_of_cell : (slots : List CellState) (m : Model) (id c : ℕ) → IsDirectory slots m → c < 512 → has_id id (cell_state slots c) ≡ true → HasCellKey m id (creation_of_state (cell_state slots c))
+pub key_of_cell : (slots : List CellState) (m : Model) (id c : ℕ) → IsDirectory slots m → c < cell_count → has_id id (cell_state slots c) ≡ true → HasCellKey m id (creation_of_state (cell_state slots c))
 key_of_cell slots m id c d lt has = go (cell_state slots c) refl has where
   go : (slot : CellState) → cell_state slots c ≡ slot → has_id id slot ≡ true → HasCellKey m id (creation_of_state slot)
   go (Open own number) at is = subst (λ (n : ℕ). HasCellKey m n number) (eqb-true own id is) (d.only c own number lt at)

@@ -1,5 +1,5 @@
 -- A key that was loaded from the file.
-use Rattle.store_core.proofs.Common.{[], AdmissionGhosts, Agrees, ap, arith, Attributes, Bool, Buffer, bytes-buffer_of, cell_state, cond, creation_of_state, DevicesGhosts, DiskGhosts, durable_keys, Entry, false, false≢true, full_slot, Gains, has_id, Holds, id_read, inl, inr, is_opaque, is_persistent_key, is_some, is_volatile_of, IsCaused, IsDirectory, IsKeyOf, IsTold, kept, Key, KeyFile, KeySlots, List, map_get, Model, nat_lt, NoKey, None, Opening, Option, option_and_then, Pairs, Puts, reads_persistent, refl, replay, Request, Service, Slot, SlotHasKey, Some, Store, Stored, stored, subst, sym, true, ℕ, ◌++◌, ◌<◌, ◌∙◌, ◌∷◌, ◌≡◌}
+use Rattle.store_core.proofs.Common.{[], AdmissionGhosts, Agrees, ap, arith, Attributes, Bool, Buffer, bytes-buffer_of, cell_state, cond, creation_of_state, DevicesGhosts, DiskGhosts, durable_keys, Entry, false, false≢true, full_slot, Gains, has_id, Holds, id_read, inl, inr, is_opaque, is_persistent_key, is_some, is_volatile_of, IsCaused, IsDirectory, IsKeyOf, IsTold, kept, Key, KeyFile, KeySlots, List, map_get, Model, nat_lt, NoKey, None, Opening, Option, option_and_then, Pairs, Puts, reads_persistent, refl, replay, Request, Service, Slot, SlotHasKey, Some, Store, Stored, stored, subst, sym, true, ℕ, ◌++◌, ◌<◌, ◌∙◌, ◌∷◌, ◌≡◌, cell_count}
 use Rattle.store_core.proofs.Histories.{reads_last, told_before}
 use Rattle.store_core.proofs.Holding.{IsReadOn, moved, goes_on}
 use Rattle.store_core.proofs.Kept.{HasCellKey, key_of_cell, is_persistent, local}
@@ -84,7 +84,7 @@ module _ {D A C : Type 0} (disks : DiskGhosts D) (elements : DevicesGhosts A) (a
 
     -- the store holds the key that was loaded, in its slot
     pub loads : IsReadOn disks elements admits old.file file → (s : HoldsBefore) →
-        (IsTold told_here start h → id_read (replay start h) e.caller e.call ≡ Some id) → c < 512 → has_id id (cell_state old.file.cells.states.items c) ≡ true → IsKeyOf a bytes → a.id.0 ≡ id →
+        (IsTold told_here start h → id_read (replay start h) e.caller e.call ≡ Some id) → c < cell_count → has_id id (cell_state old.file.cells.states.items c) ≡ true → IsKeyOf a bytes → a.id.0 ≡ id →
         (is_some told_here ≡ true → durable_keys s.model id ≡ Some (stored number a bytes)) → NoKey id old.slots.table.slots →
         ((m : Model) → Agrees old.slots.table.slots m all → HasLoaded m id number a bytes → Agrees slots.table.slots m all) → IsFound
     loads read s reads lt has key named filed none fills = go (is_some told_here) refl where

@@ -1,5 +1,5 @@
 -- The open cells of a directory by their numbers, and the keys in them.
-use Rattle.store_core.proofs.Common.{[], ap, AreOpened, arith, body, Bool, cases_eq, cell_state, CellState, cond, count_by, count_by_more_no, count_by_more_yes, creation_of_state, eq-eqb, false, false≢true, Free, has_id, HasOneEach, HoldsKey, IfSome, is_open, IsKeyOf, IsNumbered, length, List, Open, OpenedKey, Option, refl, slice_get, slice_get_within, Some, subst, suc, sum_by-cons, sym, take, true, zero, ℕ, ⊎_elim, ◌++◌, ◌+◌, ◌<◌, ◌∙◌, ◌∷◌, ◌≡◌, ◌≤◌}
+use Rattle.store_core.proofs.Common.{[], ap, AreOpened, arith, body, Bool, cases_eq, cell_state, CellState, cond, count_by, count_by_more_no, count_by_more_yes, creation_of_state, eq-eqb, false, false≢true, Free, has_id, HasOneEach, HoldsKey, IfSome, is_open, IsKeyOf, IsNumbered, length, List, Open, OpenedKey, Option, refl, slice_get, slice_get_within, Some, subst, suc, sum_by-cons, sym, take, true, zero, ℕ, ⊎_elim, ◌++◌, ◌+◌, ◌<◌, ◌∙◌, ◌∷◌, ◌≡◌, ◌≤◌, cell_count}
 use Rattle.std.proofs.lemmas.List.{take_all, length-append}
 use Rattle.store_core.proofs.FoundMap.{HasEachOnce, AreKept, id_of}
 
@@ -40,7 +40,7 @@ pub has_own : (slot : CellState) (id number : ℕ) → slot ≡ Open id number �
 has_own slot id number is = ap (has_id id) is ∙ eq-eqb id id refl
 
 -- a number is that of an open cell
-pub number_counts : (slots : List CellState) → IsNumbered 512 slots → (c id number : ℕ) → c < 512 → cell_state slots c ≡ Open id number → number ≡ count_by is_open (take c slots)
+pub number_counts : (slots : List CellState) → IsNumbered cell_count slots → (c id number : ℕ) → c < cell_count → cell_state slots c ≡ Open id number → number ≡ count_by is_open (take c slots)
 number_counts slots numbered c id number lt is = sym (ap creation_of_state is) ∙ numbered c lt (ap is_open is)
 
 -- THE KEYS IN THEM
@@ -48,17 +48,17 @@ number_counts slots numbered c id number lt is = sym (ap creation_of_state is) �
 -- a found key has a cell, under its number
 pub record IsPlaced (told : Option (List ℕ)) (slots : List CellState) (n : ℕ) (key : OpenedKey) : Type 0 where
   pub at : ℕ
-  pub within : at < 512
+  pub within : at < cell_count
   pub slot : cell_state slots at ≡ Open (id_of key) n
   pub kept : IsKeyOf key.attributes key.bytes
   pub holds : IfSome told (λ image. HoldsKey key.attributes key.bytes (body at image))
 
-module _ (told : Option (List ℕ)) (slots : List CellState) (found : List OpenedKey) (sized : length slots ≡ 512) (numbered : IsNumbered 512 slots) (are : AreOpened told slots found) where
+module _ (told : Option (List ℕ)) (slots : List CellState) (found : List OpenedKey) (sized : length slots ≡ cell_count) (numbered : IsNumbered cell_count slots) (are : AreOpened told slots found) where
   pub placed : (n : ℕ) (key : OpenedKey) → slice_get found n ≡ Some key → IsPlaced told slots n key
   placed n key e =
       let within : n < length found = slice_get_within found n key e in
       let here = cell_of slots n (let count = are.count in omega arith) in
-      let lt : here.at < 512 = omega (arith, here.within) in
+      let lt : here.at < cell_count = omega (arith, here.within) in
       let o = open_slot (cell_state slots here.at) here.opened in
       let number : o.number ≡ n = number_counts slots numbered here.at o.id o.number lt o.is ∙ here.counted in
       let k = are.each here.at o.id o.number lt o.is in
@@ -70,7 +70,7 @@ module _ (told : Option (List ℕ)) (slots : List CellState) (found : List Opene
   pub are_kept : AreKept found
   are_kept = record { each = λ i key e. (placed i key e).kept }
 
-  pub each_once : HasOneEach 512 slots → HasEachOnce found
+  pub each_once : HasOneEach cell_count slots → HasEachOnce found
   each_once one = record {
     one = λ i j key other e f same.
         let p = placed i key e in
@@ -106,8 +106,8 @@ at_end : (xs : List OpenedKey) (key : OpenedKey) → slice_get (xs ++ key ∷ []
 at_end [] key = refl
 at_end (x ∷ xs) key = at_end xs key
 
-module _ (told : Option (List ℕ)) (slots : List CellState) (sized : length slots ≡ 512) (numbered : IsNumbered 512 slots) (there : (c id number : ℕ) → c < 512 → cell_state slots c ≡ Open id number → HasCellKey told c id) where
-  next : (count : ℕ) → count < 512 → FoundBelow told slots count → (b : Bool) → is_open (cell_state slots count) ≡ b → FoundBelow told slots (count + 1)
+module _ (told : Option (List ℕ)) (slots : List CellState) (sized : length slots ≡ cell_count) (numbered : IsNumbered cell_count slots) (there : (c id number : ℕ) → c < cell_count → cell_state slots c ≡ Open id number → HasCellKey told c id) where
+  next : (count : ℕ) → count < cell_count → FoundBelow told slots count → (b : Bool) → is_open (cell_state slots count) ≡ b → FoundBelow told slots (count + 1)
   next count lt below true is =
       let o = open_slot (cell_state slots count) is in
       let has = there count o.id o.number lt o.is in
@@ -136,7 +136,7 @@ module _ (told : Option (List ℕ)) (slots : List CellState) (sized : length slo
         (cases_eq c count);
   }
 
-  found_below : (count : ℕ) → count ≤ 512 → FoundBelow told slots count
+  found_below : (count : ℕ) → count ≤ cell_count → FoundBelow told slots count
   found_below zero le = record { found = []; counts = refl; each = λ c id n lt e. absurd (omega arith) }
   found_below (suc count) le =
       subst (λ (x : ℕ). FoundBelow told slots x) (omega arith) (next count (omega arith) (found_below count (omega arith)) (is_open (cell_state slots count)) refl)
@@ -144,10 +144,10 @@ module _ (told : Option (List ℕ)) (slots : List CellState) (sized : length slo
   -- there are keys that were opened
   pub some_opened : (found : List OpenedKey) × AreOpened told slots found
   some_opened =
-      let all = found_below 512 (omega arith) in (
+      let all = found_below cell_count (omega arith) in (
         all.found,
         record {
-          count = all.counts ∙ ap (count_by is_open) (take_all 512 slots (omega arith));
+          count = all.counts ∙ ap (count_by is_open) (take_all cell_count slots (omega arith));
           each = λ c id n lt e. let k = all.each c id n lt e in (k.0, k.1, k.2.named, k.2.kept, k.2.holds);
         },
       )

@@ -1,5 +1,5 @@
 -- What an opening finds, as keys of the one-thread store.
-use Rattle.store_core.proofs.Common.{[], ap, AreFound, AreOpened, arith, Attributes, body, cell_state, CellState, cond, content_at, content_of, content_there, creation_of_state, drop, durable_keys, eqb-true, false≢true, Finds, found_in, Free, gate, get_or-replicate, has_id, HasKey, HoldsId, HoldsKey, IfSome, is_some, IsFoundIn, IsKeyOf, IsNamed, IsNumbered, IsPersistent, kept, Key, length, length-drop, length-take, List, map_get, None, Open, opened_gate, OpenedKey, Option, place, Present, refl, Settings, Shows, Shut, slice_get, Some, Sound, start_of, Stored, stored, subst, suc, sym, take, true, Unsure, ℕ, ◌+◌, ◌<◌, ◌∙◌, ◌∷◌, ◌≡◌, ◌≤◌}
+use Rattle.store_core.proofs.Common.{[], ap, AreFound, AreOpened, arith, Attributes, body, cell_state, CellState, cond, content_at, content_of, content_there, creation_of_state, drop, durable_keys, eqb-true, false≢true, Finds, found_in, Free, gate, get_or-replicate, has_id, HasKey, HoldsId, HoldsKey, IfSome, is_some, IsFoundIn, IsKeyOf, IsNamed, IsNumbered, IsPersistent, kept, Key, length, length-drop, length-take, List, map_get, None, Open, opened_gate, OpenedKey, Option, place, Present, refl, Settings, Shows, Shut, slice_get, Some, Sound, start_of, Stored, stored, subst, suc, sym, take, true, Unsure, ℕ, ◌+◌, ◌<◌, ◌∙◌, ◌∷◌, ◌≡◌, ◌≤◌, cell_count}
 use Rattle.key_cells.proofs.Bodies.{of_one_key}
 use Rattle.store_core.proofs.FoundMap.{HasEachOnce, id_of, found_at, at_found}
 use Rattle.store_core.proofs.Kept.{lasting}
@@ -25,9 +25,9 @@ pub record IsCellIn (image now : List ℕ) (c id : ℕ) : Type 0 where
   pub holds : HoldsId id (body c image)
   pub same : body c now ≡ body c image
 
-pub cell_in : (slots : List CellState) (image now : List ℕ) → AreTold slots image now → (c id number : ℕ) → c < 512 → cell_state slots c ≡ Open id number → IsCellIn image now c id
+pub cell_in : (slots : List CellState) (image now : List ℕ) → AreTold slots image now → (c id number : ℕ) → c < cell_count → cell_state slots c ≡ Open id number → IsCellIn image now c id
 cell_in slots [] now are c id number lt is =
-    let free : cell_state slots c ≡ Free = ap (λ (l : List CellState). cell_state l c) are.found ∙ get_or-replicate 512 c Free Free lt in
+    let free : cell_state slots c ≡ Free = ap (λ (l : List CellState). cell_state l c) are.found ∙ get_or-replicate cell_count c Free Free lt in
     absurd (cc)
 cell_in slots (byte ∷ rest) now are c id number lt is =
     let image : List ℕ = byte ∷ rest in
@@ -55,9 +55,9 @@ any_of_id c id named = record {
   };
 }
 
-pub cell_key : (slots : List CellState) (before now : Option (List ℕ)) (L : List ℕ → Type 0) → IsNamed 512 slots → is_some now ≡ is_some before → IfSome before (λ image. IsFoundIn image slots) →
+pub cell_key : (slots : List CellState) (before now : Option (List ℕ)) (L : List ℕ → Type 0) → IsNamed cell_count slots → is_some now ≡ is_some before → IfSome before (λ image. IsFoundIn image slots) →
     IfSome before (λ image. (read : List ℕ) → L read → Sound slots (found_in image) read) → IfSome now L →
-    (c id number : ℕ) → c < 512 → cell_state slots c ≡ Open id number → HasCellKey now c id
+    (c id number : ℕ) → c < cell_count → cell_state slots c ≡ Open id number → HasCellKey now c id
 cell_key slots before now L named tells found sound left c id number lt is =
     told_twice slots L before now tells found sound left (λ x y. HasCellKey y c id)
     (any_of_id c id (named id c lt (has_own (cell_state slots c) id number is)))
@@ -87,7 +87,7 @@ pub record IsListed (slots : List CellState) (c : ℕ) : Type 0 where
   pub number : ℕ
   pub is : cell_state slots c ≡ Open id number
 
-listed : (slots : List CellState) (image now : List ℕ) → AreTold slots image now → (c : ℕ) → c < 512 → gate c image ≡ opened_gate → IsListed slots c
+listed : (slots : List CellState) (image now : List ℕ) → AreTold slots image now → (c : ℕ) → c < cell_count → gate c image ≡ opened_gate → IsListed slots c
 listed slots [] now are c lt opened = absurd (nothing_there c opened)
 listed slots (byte ∷ rest) now are c lt opened = of (cell_state slots c) refl (are.found.each c lt)
   where
@@ -103,7 +103,7 @@ opened_key a bytes = record { attributes = a; bytes = bytes }
 same_key : (a b : Attributes) (bytes other : List ℕ) → (a ≡ b) × (bytes ≡ other) → opened_key a bytes ≡ opened_key b other
 same_key a b bytes other same = ap (λ (x : Attributes). opened_key x bytes) same.0 ∙ ap (opened_key b) same.1
 
-module _ (slots : List CellState) (image now : List ℕ) (are : AreTold slots image now) (sized : length slots ≡ 512) (numbered_by : IsNumbered 512 slots) (found : List OpenedKey) (keys : AreOpened (Some now) slots found) where
+module _ (slots : List CellState) (image now : List ℕ) (are : AreTold slots image now) (sized : length slots ≡ cell_count) (numbered_by : IsNumbered cell_count slots) (found : List OpenedKey) (keys : AreOpened (Some now) slots found) where
   pub key_found : (a : Attributes) (bytes : List ℕ) → HasKey a bytes image → (number : ℕ) × (slice_get found number ≡ Some (opened_key a bytes))
   key_found a bytes has =
       let c = has.0 in
@@ -130,7 +130,7 @@ module _ (slots : List CellState) (image now : List ℕ) (are : AreTold slots im
         ∙ ap (λ (m : ℕ). Some (stored m key.attributes key.bytes)) (omega arith)
 
     abbrev IsInCell : (id : ℕ) (key : Stored) → Type 0
-    IsInCell id key = (c : ℕ) × (c < 512) × (has_id id (cell_state slots c) ≡ true) × HoldsKey key.attributes key.bytes (body c image) × (key.creation ≡ creation_of_state (cell_state slots c))
+    IsInCell id key = (c : ℕ) × (c < cell_count) × (has_id id (cell_state slots c) ≡ true) × HoldsKey key.attributes key.bytes (body c image) × (key.creation ≡ creation_of_state (cell_state slots c))
 
     in_cell : (id : ℕ) (key : Stored) → durable_keys (start_of settings found) id ≡ Some key → IsInCell id key
     in_cell id key e = of (map_get (start_of settings found).keys id) refl e
@@ -151,7 +151,7 @@ module _ (slots : List CellState) (image now : List ℕ) (are : AreTold slots im
       all = λ id c lt has. of id c lt (cell_state slots c) refl has;
     }
       where
-        of : (id c : ℕ) → c < 512 → (s : CellState) → cell_state slots c ≡ s → has_id id s ≡ true → (key : Stored) × (durable_keys (start_of settings found) id ≡ Some key)
+        of : (id c : ℕ) → c < cell_count → (s : CellState) → cell_state slots c ≡ s → has_id id s ≡ true → (key : Stored) × (durable_keys (start_of settings found) id ≡ Some key)
         of id c lt (Open own number) is has =
             let k = keys.each c own number lt is in
             (stored number k.0.attributes k.0.bytes, ap (durable_keys (start_of settings found)) (sym (k.2 ∙ eqb-true own id has)) ∙ durable number k.0 k.1 k.3)
@@ -166,7 +166,7 @@ same_places (x ∷ xs) [] same each = absurd (omega arith)
 same_places (x ∷ xs) (y ∷ ys) same each =
     ap (λ (k : OpenedKey). k ∷ xs) (each 0 x y refl refl) ∙ ap (λ (l : List OpenedKey). y ∷ l) (same_places xs ys (omega arith) (λ i k l e f. each (suc i) k l e f))
 
-pub one_start : (image : List ℕ) (slots : List CellState) (found other : List OpenedKey) → length slots ≡ 512 → IsNumbered 512 slots → AreOpened (Some image) slots found → AreOpened (Some image) slots other → found ≡ other
+pub one_start : (image : List ℕ) (slots : List CellState) (found other : List OpenedKey) → length slots ≡ cell_count → IsNumbered cell_count slots → AreOpened (Some image) slots found → AreOpened (Some image) slots other → found ≡ other
 one_start image slots found other sized numbered_by are are' =
     same_places found other (are.count ∙ sym are'.count) (λ i x y e f.
     let p = placed (Some image) slots found sized numbered_by are i x e in

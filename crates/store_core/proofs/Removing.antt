@@ -1,5 +1,5 @@
 -- A store of which one key is removed.
-use Rattle.store_core.proofs.Common.{ap, arith, Bool, cases_eq, cases_lt, cell_state, CellState, cond, destroyed, durable_keys, eq-eqb, eqb-true, false, false≢true, Free, get_or-map, get_or-set_other, get_or-set_same, get_or_past, held_key, HeldKey, HeldKeys, HoldsHandle, HoldsKeys, inl, inr, is_volatile, IsDirectory, IsPut, IsSomeKey, IsSoundStore, kept, Key, KeyMap, Lacks, left, len_kept-insert, length, length-map, List, map_get, map_get-remove, map_len, map_remove, Model, nat_cmp-IsAntisymmetric, nat_cmp_total, ne_eqb, None, none-some, Open, Option, option_map, Puts, refl, retain_keys, same_map, same_Some, set, settled_state, settled_states, Some, Stored, stored, subst, sym, taken, true, unsigned_tied, without_key, ℕ, ◌+◌, ◌<◌, ◌==◌, ◌∙◌, ◌≡◌, ◌≢◌, ◌⊎◌}
+use Rattle.store_core.proofs.Common.{ap, arith, Bool, cases_eq, cases_lt, cell_state, CellState, cond, destroyed, durable_keys, eq-eqb, eqb-true, false, false≢true, Free, get_or-map, get_or-set_other, get_or-set_same, get_or_past, held_key, HeldKey, HeldKeys, HoldsHandle, HoldsKeys, inl, inr, is_volatile, IsDirectory, IsPut, IsSomeKey, IsSoundStore, kept, Key, KeyMap, Lacks, left, len_kept-insert, length, length-map, List, map_get, map_get-remove, map_len, map_remove, Model, nat_cmp-IsAntisymmetric, nat_cmp_total, ne_eqb, None, none-some, Open, Option, option_map, Puts, refl, retain_keys, same_map, same_Some, set, settled_state, settled_states, Some, Stored, stored, subst, sym, taken, true, unsigned_tied, without_key, ℕ, ◌+◌, ◌<◌, ◌==◌, ◌∙◌, ◌≡◌, ◌≢◌, ◌⊎◌, cell_count}
 use Rattle.store_core.proofs.Kept.{HasCellKey}
 use Rattle.store_core.proofs.Replaced.{back_again}
 
@@ -31,7 +31,7 @@ settled_at slots c = elim (cases_lt c (length slots)) [
 ]
 
 -- a directory that differs in cells in doubt alone has the same keys
-pub directory_settled : (slots slots' : List CellState) (m : Model) → length slots' ≡ 512 → settled_states slots' ≡ settled_states slots → IsDirectory slots m → IsDirectory slots' m
+pub directory_settled : (slots slots' : List CellState) (m : Model) → length slots' ≡ cell_count → settled_states slots' ≡ settled_states slots → IsDirectory slots m → IsDirectory slots' m
 directory_settled slots slots' m sized same d = record {
   sized = sized;
   there = λ q k is lasts. let c = d.there q k is lasts in (c.0, c.1, opens slots slots' c.0 q k.number same c.2);
@@ -43,11 +43,11 @@ directory_settled slots slots' m sized same d = record {
 
 -- a cell is empty, and the others have the keys that they had
 pub record IsEmptied (slots slots' : List CellState) (c : ℕ) : Type 0 where
-  pub sized : length slots' ≡ 512
-  pub inside : c < 512
+  pub sized : length slots' ≡ cell_count
+  pub inside : c < cell_count
   pub settled : settled_states slots' ≡ set (settled_states slots) c Free
 
-module _ (slots slots' : List CellState) (c : ℕ) (sized : length slots ≡ 512) (e : IsEmptied slots slots' c) where
+module _ (slots slots' : List CellState) (c : ℕ) (sized : length slots ≡ cell_count) (e : IsEmptied slots slots' c) where
   still_open : (other id number : ℕ) → other ≢ c → cell_state slots other ≡ Open id number → cell_state slots' other ≡ Open id number
   still_open other id number differ is = settled_opens (cell_state slots' other) id number
       (sym (settled_at slots' other) ∙ (ap (λ (l : List CellState). cell_state l other) e.settled ∙ (get_or-set_other (settled_states slots) c other Free Free differ ∙ (settled_at slots other ∙ ap settled_state is))))

@@ -1,5 +1,5 @@
 -- A store of which one key that is kept in the file has other attributes and bytes.
-use Rattle.store_core.proofs.Common.{Agrees, ap, Attributes, Bool, cases_eq, cell_state, CellState, cond, eq-eqb, eqb-true, false, false≢true, has_secure_element, HeldKeys, holds_its_key, holds_key, HoldsHandle, HoldsKeys, inl, inr, is_opaque, is_volatile, is_volatile_of, IsDirectory, IsGone, IsKeyOf, IsSoundKey, IsSoundStore, Key, KeyMap, len_kept-insert, List, map_get, map_insert, map_len, map_remove, Model, nat_cmp-IsAntisymmetric, nat_cmp_total, nat_lt, ne_eqb, NoKey, None, Open, Option, Pairs, put, refl, retain_keys, same_map, same_Some, Slot, slot_at, Some, subst, sym, taken, true, ℕ, ◌<◌, ◌==◌, ◌∙◌, ◌≡◌, ◌≢◌, ◌≤◌, ◌⊎◌}
+use Rattle.store_core.proofs.Common.{Agrees, ap, Attributes, Bool, cases_eq, cell_state, CellState, cond, eq-eqb, eqb-true, false, false≢true, has_secure_element, HeldKeys, holds_its_key, holds_key, HoldsHandle, HoldsKeys, inl, inr, is_opaque, is_volatile, is_volatile_of, IsDirectory, IsGone, IsKeyOf, IsSoundKey, IsSoundStore, Key, KeyMap, len_kept-insert, List, map_get, map_insert, map_len, map_remove, Model, nat_cmp-IsAntisymmetric, nat_cmp_total, nat_lt, ne_eqb, NoKey, None, Open, Option, Pairs, put, refl, retain_keys, same_map, same_Some, Slot, slot_at, Some, subst, sym, taken, true, ℕ, ◌<◌, ◌==◌, ◌∙◌, ◌≡◌, ◌≢◌, ◌≤◌, ◌⊎◌, cell_count}
 use Rattle.store_core.proofs.Kept.{HasCellKey, lasting, local, kept_checked}
 
 -- as many keys are kept of the map
@@ -80,7 +80,7 @@ module _ (m : Model) (id : ℕ) (key : Key) (a : Attributes) (bytes : List ℕ) 
     numbers = λ q r k l e f same. apart q r k l s (found_in m id loaded q k e) (found_in m id loaded r l f) same;
     made = s.made;
     live = λ c. subst (λ n. n ≤ 16) (sym (same_count (is_volatile_of c) m.keys id key loaded there)) (s.live c);
-    persistent = subst (λ n. n ≤ 512) (sym (same_count (λ i. nat_lt i 0x40000000) m.keys id key loaded there)) s.persistent;
+    persistent = subst (λ n. n ≤ cell_count) (sym (same_count (λ i. nat_lt i 0x40000000) m.keys id key loaded there)) s.persistent;
     callers = s.callers;
   }
 
@@ -92,7 +92,7 @@ module _ (m : Model) (id : ℕ) (key : Key) (a : Attributes) (bytes : List ℕ) 
     only = λ c q number lt at. of_cell q number (cases_eq q id) (d.only c q number lt at);
     one = d.one;
   } where
-    in_cell : (q : ℕ) (k : Key) → IsFoundIn m id loaded q k → is_volatile k.attributes ≡ false → (c : ℕ) × (c < 512) × (cell_state slots c ≡ Open q k.number)
+    in_cell : (q : ℕ) (k : Key) → IsFoundIn m id loaded q k → is_volatile k.attributes ≡ false → (c : ℕ) × (c < cell_count) × (cell_state slots c ≡ Open q k.number)
     in_cell q k (inl here) lasts = let c = d.there id key there persistent in (c.0, c.1, c.2 ∙ (ap (λ n. Open n key.number) (sym here.0) ∙ ap (λ (x : Key). Open q x.number) here.1))
     in_cell q k (inr old) lasts = d.there q k old.1 lasts
 

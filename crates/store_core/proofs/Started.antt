@@ -1,5 +1,5 @@
 -- A store that was opened stands for a start, before any call.
-use Rattle.store_core.proofs.Common.{[], AdmissionGhosts, Agrees, ap, AreFound, AreHoldings, AreOpened, arith, Attributes, Bool, cell_state, CellState, count_by, count_by-le-length, count_persistent, DevicesGhosts, DiskGhosts, durable_keys, empty_ones, empty_slot, false, false≢true, for_told, found_in, HasKey, HasOneEach, HeldKeys, HoldsKeys, IfSome, is_opaque, is_open, is_some, is_volatile, is_volatile_of, IsDirectory, IsHolding, IsNumbered, IsOpened, IsOpeningRefused, IsStart, IsVolatileKey, KeepsKeys, Key, KeyFile, Keys, Lacks, length, length-replicate, List, live_volatile, lt-ltb, map_get, Memory, Model, nat_lt, None, of_volatile, Open, OpenedKey, Opening, opening_of, Option, Pairs, refl, replicate, Service, Settings, slice_get, slice_index, slice_index_or, Some, some_weaker, Sound, stands_fits, StandsFor, StandsForContents, StandsForKeys, start_of, Store, subst, suc, sym, true, zero, ℕ, ◌+◌, ◌↔◌, ◌∙◌, ◌≡◌, ◌≤◌, service_of}
+use Rattle.store_core.proofs.Common.{[], AdmissionGhosts, Agrees, ap, AreFound, AreHoldings, AreOpened, arith, Attributes, Bool, cell_state, CellState, count_by, count_by-le-length, count_persistent, DevicesGhosts, DiskGhosts, durable_keys, empty_ones, empty_slot, false, false≢true, for_told, found_in, HasKey, HasOneEach, HeldKeys, HoldsKeys, IfSome, is_opaque, is_open, is_some, is_volatile, is_volatile_of, IsDirectory, IsHolding, IsNumbered, IsOpened, IsOpeningRefused, IsStart, IsVolatileKey, KeepsKeys, Key, KeyFile, Keys, Lacks, length, length-replicate, List, live_volatile, lt-ltb, map_get, Memory, Model, nat_lt, None, of_volatile, Open, OpenedKey, Opening, opening_of, Option, Pairs, refl, replicate, Service, Settings, slice_get, slice_index, slice_index_or, Some, some_weaker, Sound, stands_fits, StandsFor, StandsForContents, StandsForKeys, start_of, Store, subst, suc, sym, true, zero, ℕ, ◌+◌, ◌↔◌, ◌∙◌, ◌≡◌, ◌≤◌, service_of, cell_count}
 use Rattle.std.proofs.lemmas.List.Elements.{All-replicate}
 use Rattle.key_cells.proofs.Opened.{calm_none, refused_calm}
 use Rattle.persistent_keys.proofs.Founding.{found_stands}
@@ -60,7 +60,7 @@ module _ (told : Option (List ℕ)) (slots : List CellState) (found : List Opene
   all_persistent = counted (λ id. nat_lt id 0x40000000) true 0 found once (λ i key e. lt-ltb (id_of key) 0x40000000 (let most = low i key e in omega arith))
 
   -- a directory of so many numbered cells has these keys
-  module _ (sized : length slots ≡ 512) (numbered_by : IsNumbered 512 slots) (one : HasOneEach 512 slots) (are : AreOpened told slots found) where
+  module _ (sized : length slots ≡ cell_count) (numbered_by : IsNumbered cell_count slots) (one : HasOneEach cell_count slots) (are : AreOpened told slots found) where
     directory_starts : IsDirectory slots first
     directory_starts = record {
       sized = sized;
@@ -76,7 +76,7 @@ module _ (told : Option (List ℕ)) (slots : List CellState) (found : List Opene
       one = λ c other id number another lt lt' is is'. one id c other lt lt' (has_own (cell_state slots c) id number is) (has_own (cell_state slots other) id another is');
     }
 
-    few_found : length found ≤ 512
+    few_found : length found ≤ cell_count
     few_found = omega (arith, are.count, count_by-le-length is_open slots, sized)
 
 -- A STORE THAT WAS OPENED
@@ -193,7 +193,7 @@ module _ {D A C : Type 0} (disks : DiskGhosts D) (elements : DevicesGhosts A) (a
         let are : AreOpened (disks.contents disk) slots found = keys_of start s in
         let kept : AreKept found = are_kept (disks.contents disk) slots found sized numbered_by are in
         let once : HasEachOnce found = each_once (disks.contents disk) slots found sized numbered_by are new.file.one in
-        let few_keys : length found ≤ 512 = few_found (disks.contents disk) slots found settings kept once sized numbered_by new.file.one are in
+        let few_keys : length found ≤ cell_count = few_found (disks.contents disk) slots found settings kept once sized numbered_by new.file.one are in
         let file : is_some (disks.contents disk) ≡ true → StandsForKeys disks disk slots (durable_keys m) [] = file_starts settings found are once in
         let store_is : m ≡ start.store = ap (λ (x : Service). x.store) (sym s.is) in
         record {

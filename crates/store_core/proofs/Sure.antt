@@ -1,5 +1,5 @@
 -- Directories without a cell in doubt, and what is in the cells of their files.
-use Rattle.store_core.proofs.Common.{[], Absent, ap, arith, body, cell_state, CellState, closed, Content, content_at, DiskGhosts, Doubt, Doubtful, false≢true, Finds, Free, gate, get_or-map, get_or-replicate, HasKeyOrIsClosed, HasKeyOrZeros, HoldsKey, IfSome, inl, inr, is_some, IsDoubtedIn, IsFoundIn, IsSure, Keys, length, List, map-set, None, Open, opened_gate, Option, Present, refl, set, settled_state, settled_states, Shows, Shut, Some, StandsForKeys, Stored, stored, subst, sym, TellsCell, true, Unsure, zeros, ℕ, ◌<◌, ◌∙◌, ◌∷◌, ◌≡◌, ◌⊎◌}
+use Rattle.store_core.proofs.Common.{[], Absent, ap, arith, body, cell_state, CellState, closed, Content, content_at, DiskGhosts, Doubt, Doubtful, false≢true, Finds, Free, gate, get_or-map, get_or-replicate, HasKeyOrIsClosed, HasKeyOrZeros, HoldsKey, IfSome, inl, inr, is_some, IsDoubtedIn, IsFoundIn, IsSure, Keys, length, List, map-set, None, Open, opened_gate, Option, Present, refl, set, settled_state, settled_states, Shows, Shut, Some, StandsForKeys, Stored, stored, subst, sym, TellsCell, true, Unsure, zeros, ℕ, ◌<◌, ◌∙◌, ◌∷◌, ◌≡◌, ◌⊎◌, cell_count}
 use Rattle.key_cells.proofs.Clearing.{all_settled}
 use Rattle.persistent_keys.proofs.Filing.{settled_twice}
 use Rattle.store_core.proofs.Wiped.{shows_free}
@@ -16,11 +16,11 @@ found_cell (Open id number) g b is = refl
 found_cell Shut g b is = absurd is
 found_cell Unsure g b is = absurd is
 
-found_sure : (image : List ℕ) (slots : List CellState) → length slots ≡ 512 → IsFoundIn image slots → IsSure slots
-found_sure [] slots sized is = sym (all_settled slots (λ c lt. let free = ap (λ (l : List CellState). cell_state l c) is ∙ get_or-replicate 512 c Free Free (omega (arith, sized, lt)) in free ∙ sym (ap settled_state free)))
+found_sure : (image : List ℕ) (slots : List CellState) → length slots ≡ cell_count → IsFoundIn image slots → IsSure slots
+found_sure [] slots sized is = sym (all_settled slots (λ c lt. let free = ap (λ (l : List CellState). cell_state l c) is ∙ get_or-replicate cell_count c Free Free (omega (arith, sized, lt)) in free ∙ sym (ap settled_state free)))
 found_sure (byte ∷ rest) slots sized is = sym (all_settled slots (λ c lt. found_cell (cell_state slots c) (gate c (byte ∷ rest)) (body c (byte ∷ rest)) (is.each c (omega (arith, sized, lt)))))
 
-pub opened_sure : (told : Option (List ℕ)) (slots : List CellState) → length slots ≡ 512 → IfSome told (λ image. IsFoundIn image slots) → is_some told ≡ true → IsSure slots
+pub opened_sure : (told : Option (List ℕ)) (slots : List CellState) → length slots ≡ cell_count → IfSome told (λ image. IsFoundIn image slots) → is_some told ≡ true → IsSure slots
 opened_sure None slots sized found tells = absurd (false≢true tells)
 opened_sure (Some image) slots sized found tells = found_sure image slots sized found
 
@@ -38,7 +38,7 @@ sure_cell keys doubt Shut content g b sure shows tells = cc
 sure_cell keys doubt Unsure content g b sure shows tells = cc
 
 pub sure_cells : {D : Type 0} (disks : DiskGhosts D) (disk : D) (slots : List CellState) (keys : Keys) (doubt : Doubt) → StandsForKeys disks disk slots keys doubt → IsSure slots →
-    (image : List ℕ) → disks.may_leave disk image → (cell : ℕ) → cell < 512 → HasKeyOrZeros keys cell image
+    (image : List ℕ) → disks.may_leave disk image → (cell : ℕ) → cell < cell_count → HasKeyOrZeros keys cell image
 sure_cells disks disk slots keys doubt s sure image left cell lt =
     let sized = s.filed.sized in
     let settled : settled_state (cell_state slots cell) ≡ cell_state slots cell = sym (get_or-map settled_state slots cell Free Free (omega arith)) ∙ ap (λ (l : List CellState). cell_state l cell) sure in
@@ -55,6 +55,6 @@ any_cell keys doubt Unsure (Doubtful bytes) g b shows tells = inr (inl (subst (I
 any_cell keys doubt slot content g b shows tells = absurd shows
 
 pub any_cells : {D : Type 0} (disks : DiskGhosts D) (disk : D) (slots : List CellState) (keys : Keys) (doubt : Doubt) → StandsForKeys disks disk slots keys doubt →
-    (image : List ℕ) → disks.may_leave disk image → (cell : ℕ) → cell < 512 → HasKeyOrIsClosed keys doubt cell image
+    (image : List ℕ) → disks.may_leave disk image → (cell : ℕ) → cell < cell_count → HasKeyOrIsClosed keys doubt cell image
 any_cells disks disk slots keys doubt s image left cell lt =
     any_cell keys doubt (cell_state slots cell) (content_at s.contents cell) (gate cell image) (body cell image) ((s.stands.each image left).each cell lt) (s.filed.each cell lt)

@@ -1,5 +1,5 @@
 -- Cells that stay zeros over the calls of a turn.
-use Rattle.store_core.proofs.Common.{[], AdmissionGhosts, ap, arith, cell_state, CellState, cond, DevicesGhosts, DiskGhosts, eqb-true, false≢true, FileStaysZeros, Free, get_or-set_same, has_id, HasZeros, IsDirectory, KeyFile, Keys, last_store, LeavesZeros, length, length-map, List, map_get, Model, None, none-some, Open, Option, set, settled_state, settled_states, StaysFree, Store, Stored, subst, sym, true, Within, within_both, within_none, ℕ, ⊎_elim, ◌<◌, ◌==◌, ◌∙◌, ◌∷◌, ◌≡◌}
+use Rattle.store_core.proofs.Common.{[], AdmissionGhosts, ap, arith, cell_state, CellState, cond, DevicesGhosts, DiskGhosts, eqb-true, false≢true, FileStaysZeros, Free, get_or-set_same, has_id, HasZeros, IsDirectory, KeyFile, Keys, last_store, LeavesZeros, length, length-map, List, map_get, Model, None, none-some, Open, Option, set, settled_state, settled_states, StaysFree, Store, Stored, subst, sym, true, Within, within_both, within_none, ℕ, ⊎_elim, ◌<◌, ◌==◌, ◌∙◌, ◌∷◌, ◌≡◌, cell_count}
 use Rattle.persistent_keys.specs.Calls.{KeepsFile}
 
 -- keys with another at one identifier
@@ -23,8 +23,8 @@ open_of id (Open own number) has = (number, ap (λ (n : ℕ). Open n number) (eq
 open_of id slot has = absurd (false≢true has)
 
 -- the cells that have a destroyed key's identifier are free
-pub freed : (slots slots' : List CellState) (m : Model) (id at : ℕ) → IsDirectory slots m → at < 512 → has_id id (cell_state slots at) ≡ true → slots' ≡ set (settled_states slots) at Free →
-    (c : ℕ) → c < 512 → has_id id (cell_state slots c) ≡ true → cell_state slots' c ≡ Free
+pub freed : (slots slots' : List CellState) (m : Model) (id at : ℕ) → IsDirectory slots m → at < cell_count → has_id id (cell_state slots at) ≡ true → slots' ≡ set (settled_states slots) at Free →
+    (c : ℕ) → c < cell_count → has_id id (cell_state slots c) ≡ true → cell_state slots' c ≡ Free
 freed slots slots' m id at d within has gone c lt had =
     let a = open_of id (cell_state slots at) has in
     let o = open_of id (cell_state slots c) had in
@@ -33,7 +33,7 @@ freed slots slots' m id at d within has gone c lt had =
     ap (λ ss. cell_state ss c) gone ∙ (ap (cell_state (set (settled_states slots) at Free)) same ∙ get_or-set_same (settled_states slots) at Free Free long)
 
 -- and no cell has an identifier that the model lacks
-pub lacks_cell : (slots : List CellState) (m : Model) (id : ℕ) → IsDirectory slots m → map_get m.keys id ≡ None → (c : ℕ) → c < 512 → has_id id (cell_state slots c) ≡ true → ⊥
+pub lacks_cell : (slots : List CellState) (m : Model) (id : ℕ) → IsDirectory slots m → map_get m.keys id ≡ None → (c : ℕ) → c < cell_count → has_id id (cell_state slots c) ≡ true → ⊥
 lacks_cell slots m id d none c lt has =
     let o = open_of id (cell_state slots c) has in
     let k = d.only c id o.0 lt o.1 in
@@ -44,7 +44,7 @@ pub untouched : {D : Type 0} (disks : DiskGhosts D) (old new : KeyFile D) → ne
 untouched disks old new same = subst (LeavesZeros disks old) (sym same) (λ c lt free still. within_none (disks.moment old.cells.disk) (disks.left_since old.cells.disk) (HasZeros c))
 
 -- over many turns
-module _ {D A C : Type 0} (disks : DiskGhosts D) (elements : DevicesGhosts A) (admits : AdmissionGhosts C) (cell : ℕ) (within : cell < 512) where
+module _ {D A C : Type 0} (disks : DiskGhosts D) (elements : DevicesGhosts A) (admits : AdmissionGhosts C) (cell : ℕ) (within : cell < cell_count) where
   abbrev disk_of : Store D A C → D
   disk_of store = store.file.cells.disk
 

@@ -4,7 +4,7 @@ use Rattle.std.specs.List.{AllByRecursion}
 use Rattle.disk_face.specs.declared.Disk as Disk
 use Rattle.key_cells.specs.declared.state.CellState.{CellState}
 use Rattle.key_cells.specs.declared.state.CellState.TheVariants.{Free}
-use Rattle.key_cells.specs.Prelude.{HasZeros, cell_state}
+use Rattle.key_cells.specs.Prelude.{HasZeros, cell_state, cell_count}
 use Rattle.store_model.specs.Prelude.{FaultMark, Plain, Service, Entry, is_persistent_key, key_changed, outcome_of}
 use Rattle.store_core.specs.Durability.{is_destruction}
 
@@ -38,7 +38,7 @@ HaveFreed P start h = (freed : List FreedCell) × HasFreed start h [] freed × A
 
 -- a cell is all zeros in every image that a crash since the destruction that freed it has left
 abbrev pub IsZerosSince : (left_since : ℕ → List ℕ → Type 0) → FreedCell → Type 0
-IsZerosSince left_since freed = (freed.cell < 512) × ((image : List ℕ) → left_since freed.since image → HasZeros freed.cell image)
+IsZerosSince left_since freed = (freed.cell < cell_count) × ((image : List ℕ) → left_since freed.since image → HasZeros freed.cell image)
 
 -- Each destruction of a persistent key that succeeded has freed a cell, and each creation of one has taken at most one of these.
 -- Those that none has taken are all zeros in every image that a crash since their destruction has left.

@@ -7,7 +7,7 @@ use Rattle.std.specs.List.{AllByRecursion}
 use Rattle.psa_status.specs.declared.Status.TheVariants.{Success}
 use Rattle.disk_face.specs.Moments.{Within, done_at}
 use Rattle.key_cells.specs.declared.state.CellState.TheVariants.{Free}
-use Rattle.key_cells.specs.Prelude.{HasZeros, cell_state}
+use Rattle.key_cells.specs.Prelude.{HasZeros, cell_state, cell_count}
 use Rattle.slot_table.specs.Slots.{empty_slot, filling_slot, slot_at}
 use Rattle.key_slots.specs.Holdings.{Pairs, named}
 use Rattle.store_model.specs.Prelude.{HasNumber, IsSound, Service, Plain, plain_step, Entry, replay, GainsNothing, IsCaller, found_made, made_after}
@@ -35,24 +35,24 @@ module _ {D A C : Type 0} (disks : Disk.Ghosts D) (elements : Devices.Ghosts A) 
   -- a crash leaves zeros in each cell that is free
   abbrev pub LeavesFreeCellsZeros : Type 0
   LeavesFreeCellsZeros = (start : Service) (opening : Opening) (h : List Entry) (all : List Pairs) → StandsFor disks elements admits store start opening h all →
-      is_some (disks.contents store.file.cells.disk) ≡ true → (cell : ℕ) → cell < 512 → cell_state store.file.cells.states.items cell ≡ Free →
+      is_some (disks.contents store.file.cells.disk) ≡ true → (cell : ℕ) → cell < cell_count → cell_state store.file.cells.states.items cell ≡ Free →
       (image : List ℕ) → disks.may_leave store.file.cells.disk image → HasZeros cell image
 
   -- where no key is in doubt, it leaves in each cell a key of the file, or zeros
   abbrev pub LeavesKeysOrZeros : Type 0
   LeavesKeysOrZeros = (start : Service) (opening : Opening) (h : List Entry) (all : List Pairs) (s : StandsFor disks elements admits store start opening h all) →
       is_some (disks.contents store.file.cells.disk) ≡ true → (course_of start h).doubt ≡ [] →
-      (image : List ℕ) → disks.may_leave store.file.cells.disk image → (cell : ℕ) → cell < 512 → HasKeyOrZeros (durable_keys s.holds.model) cell image
+      (image : List ℕ) → disks.may_leave store.file.cells.disk image → (cell : ℕ) → cell < cell_count → HasKeyOrZeros (durable_keys s.holds.model) cell image
 
   -- a cell that is free, over any turns that leave it free, is all zeros in every image that a crash within them leaves
   abbrev pub LeavesZerosOverTurns : Type 0
-  LeavesZerosOverTurns = (turns : List (Store D A C)) (cell : ℕ) → cell < 512 → cell_state store.file.cells.states.items cell ≡ Free →
+  LeavesZerosOverTurns = (turns : List (Store D A C)) (cell : ℕ) → cell < cell_count → cell_state store.file.cells.states.items cell ≡ Free →
       StaysFree disks elements admits cell store turns →
       Within (disks.moment store.file.cells.disk) (disks.moment (last_store store turns).file.cells.disk) (disks.left_since store.file.cells.disk) (disks.left_since (last_store store turns).file.cells.disk) (HasZeros cell)
 
   -- and a crash since the first of these, whenever it comes, leaves zeros there
   abbrev pub LeavesZerosSince : Type 0
-  LeavesZerosSince = (turns : List (Store D A C)) (cell : ℕ) → cell < 512 → cell_state store.file.cells.states.items cell ≡ Free →
+  LeavesZerosSince = (turns : List (Store D A C)) (cell : ℕ) → cell < cell_count → cell_state store.file.cells.states.items cell ≡ Free →
       Stands disks elements admits store → is_some (disks.contents store.file.cells.disk) ≡ true → StaysFree disks elements admits cell store turns →
       (image : List ℕ) → disks.left_since (last_store store turns).file.cells.disk (disks.moment store.file.cells.disk) image → HasZeros cell image
 

@@ -6,7 +6,7 @@ use Rattle.std.specs.Prelude.{◌≡◌, ◌<◌, ◌≤◌, ◌⊎◌, ℕ, ◌
 use Rattle.std.specs.FinMap as map
 use Rattle.key_cells.specs.declared.state.CellState as cell
 use Rattle.key_cells.specs.declared.state.CellState.TheVariants.{Open}
-use Rattle.key_cells.specs.Prelude.{cell_state, IsSure}
+use Rattle.key_cells.specs.Prelude.{cell_state, IsSure, cell_count}
 use Rattle.persistent_keys.specs.Calls.{StandsForThese}
 use Rattle.key_slots.specs.Holdings.{Pairs, Gains, AreHoldings, named}
 use Rattle.key_slots.specs.Standing.{Agrees}
@@ -29,12 +29,12 @@ IsTold told start h = (is_some told ≡ true) ⊎ ReadsNone start h
 
 -- each persistent key has a cell under its identifier and number, and no cell has another key
 pub record IsDirectory (slots : List cell.CellState) (m : model.Store) : Type 0 where
-  pub sized : length slots ≡ 512
+  pub sized : length slots ≡ cell_count
   pub there : (id : ℕ) (key : Key) → map.get m.keys id ≡ Some key → is_volatile key.attributes ≡ false →
-      (c : ℕ) × (c < 512) × (cell_state slots c ≡ Open id key.number)
-  pub only : (c id number : ℕ) → c < 512 → cell_state slots c ≡ Open id number →
+      (c : ℕ) × (c < cell_count) × (cell_state slots c ≡ Open id key.number)
+  pub only : (c id number : ℕ) → c < cell_count → cell_state slots c ≡ Open id number →
       (key : Key) × (map.get m.keys id ≡ Some key) × (is_volatile key.attributes ≡ false) × (key.number ≡ number)
-  pub one : (c other id number another : ℕ) → c < 512 → other < 512 → cell_state slots c ≡ Open id number → cell_state slots other ≡ Open id another → c ≡ other
+  pub one : (c other id number another : ℕ) → c < cell_count → other < cell_count → cell_state slots c ≡ Open id number → cell_state slots other ≡ Open id another → c ≡ other
 
 -- a device that tells its keys has each opaque key under its number, and no handle that wasn't given out
 pub record HoldsKeys (held : Option HeldKeys) (m : model.Store) : Type 0 where
@@ -78,7 +78,7 @@ module _ {D A C : Type 0} (disks : Disk.Ghosts D) (elements : Devices.Ghosts A) 
     pub labels_are : model.settings.labels ≡ admits.labels store.rules
     pub locations_are : model.settings.locations ≡ elements.locations store.devices
     pub found : model.found ≡ store.found
-    pub few : store.found ≤ 512
+    pub few : store.found ≤ cell_count
     pub calls : model.calls ≡ store.ranked
     pub made : model.made ≡ store.made
     pub live : (caller : ℕ) → caller ≤ 16 → live_volatile model.keys caller ≡ slice_index store.live caller

@@ -5,7 +5,7 @@ use Rattle.admission.specs.declared.rules.Admission as Admission
 use Rattle.std.specs.Prelude.{◌≡◌, ◌<◌, ◌≤◌, ◌↔◌, ℕ, List, [], length, replicate, count_by, slice_get, Option, Some, IfSome}
 use Rattle.key_cells.specs.declared.state.CellState as cell
 use Rattle.key_cells.specs.declared.state.CellState.TheVariants.{Open}
-use Rattle.key_cells.specs.Prelude.{body, cell_state, is_open, IsKeyOf, HoldsKey, HasKey}
+use Rattle.key_cells.specs.Prelude.{body, cell_state, is_open, IsKeyOf, HoldsKey, HasKey, cell_count}
 use Rattle.key_attributes.specs.declared.Attributes.{Attributes}
 use Rattle.store_model.specs.Prelude.{OpenedKey, Settings, Service, service_of, start_of}
 use Rattle.store_core.specs.declared.store.Opened.{Opened}
@@ -16,7 +16,7 @@ use Rattle.store_core.specs.Represents.{Opening, StandsFor}
 -- there.
 pub record AreOpened (told : Option (List ℕ)) (slots : List cell.CellState) (found : List OpenedKey) : Type 0 where
   pub count : length found ≡ count_by is_open slots
-  pub each : (c id number : ℕ) → c < 512 → cell_state slots c ≡ Open id number →
+  pub each : (c id number : ℕ) → c < cell_count → cell_state slots c ≡ Open id number →
       (key : OpenedKey) × (slice_get found number ≡ Some key) × (key.attributes.id.0 ≡ id) × IsKeyOf key.attributes key.bytes × IfSome told (λ image. HoldsKey key.attributes key.bytes (body c image))
 
 module _ {D A C : Type 0} (disks : Disk.Ghosts D) (elements : Devices.Ghosts A) (admits : Admission.Ghosts C) where

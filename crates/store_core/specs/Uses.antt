@@ -11,7 +11,7 @@ use Rattle.key_cells.specs.declared.state.CellState as cell
 use Rattle.key_cells.specs.declared.state.CellState.TheVariants.{Free}
 use Rattle.key_cells.specs.declared.cells.CellFault.{CellFault}
 use Rattle.key_cells.specs.declared.cells.CellFault.TheVariants as cell_fault
-use Rattle.key_cells.specs.Prelude.{cell_state, has_id}
+use Rattle.key_cells.specs.Prelude.{cell_state, has_id, cell_count}
 use Rattle.driver_dispatch.specs.Held.{HeldKeys, without_key}
 use Rattle.slot_table.specs.Slots.{Slot, empty_slot, holds_key, slot_at}
 use Rattle.slot_table.specs.Changes.{destroyed_slot}
@@ -107,7 +107,7 @@ EndsSlotsOf id old new = (i : ℕ) → holds_key id (slot_at old i) ≡ true →
 
 -- and each cell that has it is free
 abbrev pub FreesCellsOf : (id : ℕ) → (old new : List cell.CellState) → Type 0
-FreesCellsOf id old new = (c : ℕ) → c < 512 → has_id id (cell_state old c) ≡ true → cell_state new c ≡ Free
+FreesCellsOf id old new = (c : ℕ) → c < cell_count → has_id id (cell_state old c) ≡ true → cell_state new c ≡ Free
 
 -- A device that tells its keys has lost the key of a slot, where it is the element's, and else has what it had.
 abbrev pub IsForgotten : Slot → (old new : Option HeldKeys) → Type 0

@@ -5,7 +5,7 @@ use Rattle.admission.specs.declared.rules.Admission as Admission
 use Rattle.std.specs.Prelude.{◌≡◌, ◌<◌, ◌⊎◌, ℕ, true, List, [], ◌∷◌, Some, is_some}
 use Rattle.disk_face.specs.Moments.{Within}
 use Rattle.key_cells.specs.declared.state.CellState.TheVariants.{Free}
-use Rattle.key_cells.specs.Prelude.{gate, body, closed, opened_gate, HasZeros, cell_state, HoldsKey}
+use Rattle.key_cells.specs.Prelude.{gate, body, closed, opened_gate, HasZeros, cell_state, HoldsKey, cell_count}
 use Rattle.persistent_keys.specs.declared.file.KeyFile.{KeyFile}
 use Rattle.persistent_keys.specs.Files.{Stored, Keys, Doubt, IsDoubtedIn}
 use Rattle.persistent_keys.specs.Calls.{StandsForThese}
@@ -24,7 +24,7 @@ HasKeyOrIsClosed keys doubt cell image = HasKeyOrZeros keys cell image ⊎ (IsDo
 
 -- a cell that is free before calls and after them is all zeros in every image that a crash within them leaves
 abbrev pub LeavesZeros : {D : Type 0} (disks : Disk.Ghosts D) (old new : KeyFile D) → Type 0
-LeavesZeros disks old new = (cell : ℕ) → cell < 512 → cell_state old.cells.states.items cell ≡ Free → cell_state new.cells.states.items cell ≡ Free →
+LeavesZeros disks old new = (cell : ℕ) → cell < cell_count → cell_state old.cells.states.items cell ≡ Free → cell_state new.cells.states.items cell ≡ Free →
     Within (disks.moment old.cells.disk) (disks.moment new.cells.disk) (disks.left_since old.cells.disk) (disks.left_since new.cells.disk) (HasZeros cell)
 
 -- so it is in a file that stands for some keys

@@ -1,6 +1,7 @@
 //! How a turn copies a key.
 ghost use Rattle.std.specs.Prelude.{◌≡◌, ◌⊎◌, ◌<◌, ◌≤◌, ◌^◌, ℕ, Some, None, if◌then◌else◌, IfOk, IfErr, OnErr, is_some};
 ghost use Rattle.std.specs.FinMap as map;
+ghost use Rattle.key_cells.specs.Prelude.{store_size};
 ghost use Rattle.disk_face.specs.Disk.{StillTells};
 ghost use Rattle.secret_bytes.specs.Buffer.{IsClear};
 ghost use Rattle.slot_states.specs.declared.SlotState.TheVariants.{Full};
@@ -60,10 +61,10 @@ impl<D: Disk, A: Devices, C: Admission> Store<D, A, C> {
         requires first { 1 ≤ caller }
         requires last { caller ≤ 16 }
         requires out { HasOut D.Disk A.Devices C.Admission self.old (filling.slot, 0) }
-        requires size { D.size self.old.file.cells.disk ≡ 557120 }
+        requires size { D.size self.old.file.cells.disk ≡ store_size }
         requires clear { IsClear self.old.buffer }
         requires few { self.old.ranked < 2 ^ 62 }
-        ensures size { D.size self.new.file.cells.disk ≡ 557120 }
+        ensures size { D.size self.new.file.cells.disk ≡ store_size }
         ensures clear { IsClear self.new.buffer }
         ensures made { IfOk result (λ id. CopiesMade D.Disk A.Devices C.Admission self.old self.new caller source.0 attributes.now filling.slot id.0) }
         ensures uncopied { IfErr result (λ why. CopiesUnmade D.Disk A.Devices C.Admission self.old self.new caller source.0 attributes.now filling.slot why) }

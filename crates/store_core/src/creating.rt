@@ -7,7 +7,7 @@ ghost use Rattle.key_attributes.specs.Checks.{is_key_type, permits_size};
 ghost use Rattle.driver_dispatch.specs.Held.{with_copy, with_held_key};
 ghost use Rattle.driver_dispatch.specs.Calls.{Changes, HoldsHandle, Lacks, has_element};
 ghost use Rattle.secret_bytes.specs.Buffer.{IsClear, bytes_of};
-ghost use Rattle.key_cells.specs.Prelude.{FitsRecord};
+ghost use Rattle.key_cells.specs.Prelude.{FitsRecord, store_size};
 ghost use Rattle.slot_table.specs.Slots.{NoKey, empty_slot, slot_at};
 ghost use Rattle.slot_table.specs.Changes.{full_slot};
 ghost use Rattle.key_slots.specs.Standing.{IsOut};
@@ -87,9 +87,9 @@ impl<D: Disk, A: Devices, C: Admission> Store<D, A, C> {
         requires first { 1 ≤ caller }
         requires last { caller ≤ 16 }
         requires out { HasOutBeside D.Disk A.Devices C.Admission self.old (filling.slot, 0) (option_map (λ l. l.now) lease) }
-        requires size { D.size self.old.file.cells.disk ≡ 557120 }
+        requires size { D.size self.old.file.cells.disk ≡ store_size }
         requires few { self.old.ranked < 2 ^ 62 }
-        ensures size { D.size self.new.file.cells.disk ≡ 557120 }
+        ensures size { D.size self.new.file.cells.disk ≡ store_size }
         ensures clear { IsClear self.old.buffer → IsClear self.new.buffer }
         ensures made { IfOk result (λ id. CreatesMade D.Disk A.Devices C.Admission self.old self.new caller (option_map (λ l. l.now) lease.entry)
             attributes.now bytes.now filling.slot id.0) }
@@ -158,9 +158,9 @@ impl<D: Disk, A: Devices, C: Admission> Store<D, A, C> {
         requires first { 1 ≤ caller }
         requires last { caller ≤ 16 }
         requires ready { IsSomeReady D.Disk A.Devices C.Admission self.old caller recorded source (filling.slot, 0) }
-        requires size { D.size self.old.file.cells.disk ≡ 557120 }
+        requires size { D.size self.old.file.cells.disk ≡ store_size }
         requires few { self.old.ranked < 2 ^ 62 }
-        ensures size { D.size self.new.file.cells.disk ≡ 557120 }
+        ensures size { D.size self.new.file.cells.disk ≡ store_size }
         ensures made { IfOk result (λ id. EntersMade D.Disk A.Devices C.Admission self.old (ranked_on self.new) caller recorded source filling.slot id.0) }
         ensures unkept { IfErr result (λ why. EntersUnkept D.Disk A.Devices C.Admission self.old (ranked_on self.new) caller recorded source filling.slot why) }
         ensures wipes { EndsOnly self.old.slots.table.slots self.new.slots.table.slots (IsFillingOf filling.slot) }
@@ -204,9 +204,9 @@ impl<D: Disk, A: Devices, C: Admission> Store<D, A, C> {
         requires last { caller ≤ 16 }
         requires persistent { is_volatile recorded ≡ false }
         requires ready { IsSomeReady D.Disk A.Devices C.Admission self.old caller recorded source (filling.slot, 0) }
-        requires size { D.size self.old.file.cells.disk ≡ 557120 }
+        requires size { D.size self.old.file.cells.disk ≡ store_size }
         requires few { self.old.ranked < 2 ^ 62 }
-        ensures size { D.size self.new.file.cells.disk ≡ 557120 }
+        ensures size { D.size self.new.file.cells.disk ≡ store_size }
         ensures made { IfOk result (λ id. EntersMade D.Disk A.Devices C.Admission self.old (ranked_on self.new) caller recorded source filling.slot id.0) }
         ensures unkept { IfErr result (λ why. EntersUnkept D.Disk A.Devices C.Admission self.old (ranked_on self.new) caller recorded source filling.slot why) }
         ensures wipes { EndsOnly self.old.slots.table.slots self.new.slots.table.slots (IsFillingOf filling.slot) }

@@ -9,7 +9,7 @@ ghost use Rattle.psa_status.specs.Rows.{first_row};
 ghost use Rattle.driver_dispatch.specs.Held.{without_key};
 ghost use Rattle.driver_dispatch.specs.Calls.{HoldsHandle, has_element};
 ghost use Rattle.key_cells.specs.declared.state.CellState.TheVariants.{Free};
-ghost use Rattle.key_cells.specs.Prelude.{IsFirstWithKey, cell_state, has_id};
+ghost use Rattle.key_cells.specs.Prelude.{IsFirstWithKey, cell_state, has_id, store_size};
 ghost use Rattle.slot_states.specs.declared.SlotState.TheVariants.{Full};
 ghost use Rattle.slot_table.specs.Slots.{NoKey, holds_key, slot_at};
 ghost use Rattle.slot_table.specs.Changes.{destroyed_slot};
@@ -58,9 +58,9 @@ impl<D: Disk, A: Devices, C: Admission> Store<D, A, C> {
     /// then nor where the key is missing are disk or device called. Ranked.
     pub fn destroy(&mut self, id: KeyId) -> Result<(), NotDestroyed>
         requires stands { Stands D.Disk A.Devices C.Admission self.old }
-        requires size { D.size self.old.file.cells.disk ≡ 557120 }
+        requires size { D.size self.old.file.cells.disk ≡ store_size }
         requires few { self.old.ranked < 2 ^ 62 }
-        ensures size { D.size self.new.file.cells.disk ≡ 557120 }
+        ensures size { D.size self.new.file.cells.disk ≡ store_size }
         ensures destroyed { OnOk result (Destroys D.Disk A.Devices C.Admission self.old self.new id.0 Plain (MayDestroy id.0)) }
         ensures failed { IfErr result (λ why. DestroysUnsure D.Disk A.Devices C.Admission self.old self.new id.0 why) }
         ensures wipes { EndsOnly self.old.slots.table.slots self.new.slots.table.slots (λ i s. holds_key id.0 s ≡ true) }
@@ -103,9 +103,9 @@ impl<D: Disk, A: Devices, C: Admission> Store<D, A, C> {
     // Destroys the key of a cell.
     fn remove_kept(&mut self, id: KeyId, cell: usize) -> Result<(), NotDestroyed>
         requires stands { Stands D.Disk A.Devices C.Admission self.old }
-        requires size { D.size self.old.file.cells.disk ≡ 557120 }
+        requires size { D.size self.old.file.cells.disk ≡ store_size }
         requires there { IsFirstWithKey self.old.file.cells.states.items id.0 cell }
-        ensures size { D.size self.new.file.cells.disk ≡ 557120 }
+        ensures size { D.size self.new.file.cells.disk ≡ store_size }
         ensures destroyed { OnOk result (Destroys D.Disk A.Devices C.Admission self.old (ranked_on self.new) id.0 Plain (MayDestroy id.0)) }
         ensures failed { IfErr result (λ why. DestroysUnsure D.Disk A.Devices C.Admission self.old (ranked_on self.new) id.0 why) }
         ensures missing { IsErrOf result NotDestroyed.Missing → ⊥ }
@@ -137,12 +137,12 @@ impl<D: Disk, A: Devices, C: Admission> Store<D, A, C> {
     // Destroys the key of a slot, which no cell has.
     fn remove_volatile(&mut self, id: KeyId, slot: u32) -> Result<(), NotDestroyed>
         requires stands { Stands D.Disk A.Devices C.Admission self.old }
-        requires size { D.size self.old.file.cells.disk ≡ 557120 }
+        requires size { D.size self.old.file.cells.disk ≡ store_size }
         requires high { 0x3fffffff < id.0 }
         requires within { slot < 384 }
         requires full { (slot_at self.old.slots.table.slots slot).state ≡ Full }
         requires there { holds_key id.0 (slot_at self.old.slots.table.slots slot) ≡ true }
-        ensures size { D.size self.new.file.cells.disk ≡ 557120 }
+        ensures size { D.size self.new.file.cells.disk ≡ store_size }
         ensures destroyed { OnOk result (Destroys D.Disk A.Devices C.Admission self.old (ranked_on self.new) id.0 Plain (MayDestroy id.0)) }
         ensures failed { IfErr result (λ why. DestroysUnsure D.Disk A.Devices C.Admission self.old (ranked_on self.new) id.0 why) }
         ensures missing { IsErrOf result NotDestroyed.Missing → ⊥ }

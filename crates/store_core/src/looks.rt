@@ -1,6 +1,7 @@
 //! The turn that lends a key.
 ghost use Rattle.std.specs.Prelude.{◌≡◌, ◌<◌, ◌^◌, ◌+◌, true, IfOk, IfErr};
 ghost use Rattle.std.specs.FinMap as map;
+ghost use Rattle.key_cells.specs.Prelude.{store_size};
 ghost use Rattle.psa_status.specs.declared.Status.TheVariants.{InvalidHandle};
 ghost use Rattle.disk_face.specs.Disk.{StillTells};
 ghost use Rattle.secret_bytes.specs.Buffer.{IsClear, bytes_of};
@@ -34,11 +35,11 @@ impl<D: Disk, A: Devices, C: Admission> Store<D, A, C> {
         spare: Secret,
     ) -> Result<Lease, (Status, Secret)>
         requires stands { Stands D.Disk A.Devices C.Admission self.old }
-        requires size { D.size self.old.file.cells.disk ≡ 557120 }
+        requires size { D.size self.old.file.cells.disk ≡ store_size }
         requires clear { IsClear self.old.buffer }
         requires spare { IsClear spare }
         requires few { self.old.ranked < 2 ^ 62 }
-        ensures size { D.size self.new.file.cells.disk ≡ 557120 }
+        ensures size { D.size self.new.file.cells.disk ≡ store_size }
         ensures clear { IsClear self.new.buffer }
         ensures lent { IfOk result (λ lease. ReadsAndGives D.Disk A.Devices C.Admission self.old self.new id.0 (lease.slot, lease.creation + 1)
             (IsLent (use_refusal wanted) id.0 lease)) }

@@ -1,7 +1,7 @@
 //! How a store is opened.
 ghost use Rattle.std.specs.Prelude.{◌≡◌, ◌≤◌, ◌↔◌, ℕ, List, [], length, replicate, count_by, slice_get, Some, IfOk, IfErr, IfSome};
 ghost use Rattle.secret_bytes.specs.Buffer.{IsClear};
-ghost use Rattle.key_cells.specs.Prelude.{is_open, IsOpened, IsOpeningRefused};
+ghost use Rattle.key_cells.specs.Prelude.{is_open, IsOpened, IsOpeningRefused, cell_count, store_size};
 ghost use Rattle.slot_table.specs.Slots.{empty_slot};
 ghost use Rattle.driver_dispatch.specs.Calls.{Lacks};
 ghost use Rattle.store_model.specs.Prelude.{Service};
@@ -55,7 +55,7 @@ impl<D: Disk, A: Devices, C: Admission> Store<D, A, C> {
         ensures keys { IfOk result (λ store. IfSome (D.contents disk) (λ image. FindsKeysOf D.Disk A.Devices C.Admission store.opened image)) }
         ensures opened { IfOk result (λ store. IsOpened D.Disk disk store.file.cells.disk store.file.cells.states.items) }
         ensures later { IfOk result (λ store. D.faults disk ≤ D.faults store.file.cells.disk) }
-        ensures size { IfOk result (λ store. D.size store.file.cells.disk ≡ 557120) }
+        ensures size { IfOk result (λ store. D.size store.file.cells.disk ≡ store_size) }
         ensures clear { IfOk result (λ store. IsClear store.buffer) }
         ensures ranked { IfOk result (λ store. store.ranked ≡ 0) }
         ensures found { IfOk result (λ store. store.found ≡ count_by is_open store.file.cells.states.items) }
@@ -97,7 +97,7 @@ impl<D: Disk, A: Devices, C: Admission> Store<D, A, C> {
         buffer: Secret,
         seed: &[u8; 32],
     ) -> Store<D, A, C>
-        requires sized { length file.cells.states.items ≡ 512 }
+        requires sized { length file.cells.states.items ≡ cell_count }
         ensures file { result.file ≡ file }
         ensures slots { result.slots ≡ slots }
         ensures devices { result.devices ≡ devices }

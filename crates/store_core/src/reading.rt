@@ -3,7 +3,7 @@ ghost use Rattle.std.specs.Prelude.{◌≡◌, ◌<◌, ◌≤◌, true, false, 
 ghost use Rattle.std.specs.FinMap as map;
 ghost use Rattle.secret_bytes.specs.Buffer.{IsClear};
 ghost use Rattle.psa_status.specs.Causes.{Rose};
-ghost use Rattle.key_cells.specs.Prelude.{IsFirstWithKey};
+ghost use Rattle.key_cells.specs.Prelude.{IsFirstWithKey, store_size};
 ghost use Rattle.persistent_keys.specs.Calls.{KeepsFile};
 ghost use Rattle.slot_states.specs.declared.SlotState.TheVariants.{Full};
 ghost use Rattle.slot_table.specs.Slots.{slot_at, NoKey};
@@ -57,9 +57,9 @@ impl<D: Disk, A: Devices, C: Admission> Store<D, A, C> {
     /// The slot of a key. One that is in the file alone is loaded. Where it can't be, the slot is given up.
     pub(crate) fn bring(&mut self, id: KeyId) -> Result<u32, Unread>
         requires stands { Stands D.Disk A.Devices C.Admission self.old }
-        requires size { D.size self.old.file.cells.disk ≡ 557120 }
+        requires size { D.size self.old.file.cells.disk ≡ store_size }
         requires clear { IsClear self.old.buffer }
-        ensures size { D.size self.new.file.cells.disk ≡ 557120 }
+        ensures size { D.size self.new.file.cells.disk ≡ store_size }
         ensures clear { IsClear self.new.buffer }
         ensures within { IfOk result (λ i. i < 384) }
         ensures full { IfOk result (λ i. (slot_at self.new.slots.table.slots i).state ≡ Full) }

@@ -1,6 +1,7 @@
 //! Turns that change no key.
 ghost use Rattle.std.specs.Prelude.{◌≡◌, ◌<◌, ◌^◌, ◌+◌, ℕ, List, true, false, Some, None, is_some, IfOk, IfErr, OnOk, OnErr};
 ghost use Rattle.std.specs.FinMap as map;
+ghost use Rattle.key_cells.specs.Prelude.{store_size};
 ghost use Rattle.disk_face.specs.Disk.{StillTells};
 ghost use Rattle.psa_status.specs.declared.Status.TheVariants.{InvalidHandle};
 ghost use Rattle.secret_bytes.specs.Buffer.{IsClear};
@@ -116,10 +117,10 @@ impl<D: Disk, A: Devices, C: Admission> Store<D, A, C> {
     /// the file has it and can't be read, whose slot is then empty. Nothing is written to the disk. Ranked.
     pub fn attributes(&mut self, id: KeyId) -> Result<Attributes, Status>
         requires stands { Stands D.Disk A.Devices C.Admission self.old }
-        requires size { D.size self.old.file.cells.disk ≡ 557120 }
+        requires size { D.size self.old.file.cells.disk ≡ store_size }
         requires clear { IsClear self.old.buffer }
         requires few { self.old.ranked < 2 ^ 62 }
-        ensures size { D.size self.new.file.cells.disk ≡ 557120 }
+        ensures size { D.size self.new.file.cells.disk ≡ store_size }
         ensures clear { IsClear self.new.buffer }
         ensures known { IfOk result (λ attributes. Reads D.Disk A.Devices C.Admission self.old self.new id.0 Plain
             (HasAttributes id.0 attributes)) }

@@ -1,9 +1,9 @@
-use Rattle.key_cells.proofs.Common.{AreFirstKeys, HasOneEach, length, ReadsBelow, ◌≡◌}
+use Rattle.key_cells.proofs.Common.{AreFirstKeys, HasOneEach, length, ReadsBelow, ◌≡◌, cell_count}
 use Rattle.key_cells.proofs.inspecting.read_keys.Given as goal
 
 abbrev pub invariant-loop-cell : goal.invariant-loop-cell
 invariant-loop-cell l = record {
-  count : length l.states.items ≡ 512;
+  count : length l.states.items ≡ cell_count;
   read : ReadsBelow l.cell l.states.items l.image;
   one : HasOneEach l.cell l.states.items;
   keys : AreFirstKeys l.cell l.keys.items l.image;

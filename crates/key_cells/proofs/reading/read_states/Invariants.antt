@@ -1,4 +1,4 @@
-use Rattle.key_cells.proofs.Common.{Calm, count_by, GivesBlock, HasOneEach, IfSome, is_open, IsNamed, IsNumbered, length, ReadsBelow, take, ◌≡◌, ◌≢◌}
+use Rattle.key_cells.proofs.Common.{Calm, count_by, GivesBlock, HasOneEach, IfSome, is_open, IsNamed, IsNumbered, length, ReadsBelow, take, ◌≡◌, ◌≢◌, cell_count, store_size}
 use Rattle.std.specs.Prelude.{◌%◌}
 use Rattle.key_cells.proofs.reading.read_states.Given as goal
 
@@ -6,10 +6,10 @@ abbrev pub invariant-loop-cell : goal.invariant-loop-cell
 invariant-loop-cell g l =
     let d = g.D.Disk in
     record {
-      size : d.size l.disk ≡ 557120;
+      size : d.size l.disk ≡ store_size;
       room : length l.block ≡ 69632;
       block : l.cell % 64 ≢ 0 → GivesBlock (d.contents l.fn.disk) l.cell l.block;
-      count : length l.states.items ≡ 512;
+      count : length l.states.items ≡ cell_count;
       read : IfSome (d.contents l.fn.disk) (λ image. ReadsBelow l.cell l.states.items image);
       one : HasOneEach l.cell l.states.items;
       numbered : IsNumbered l.cell l.states.items;

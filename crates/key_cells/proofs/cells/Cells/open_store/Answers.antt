@@ -7,12 +7,12 @@ pub returns-in-Err-clause-refused : goal.returns-in-Err-clause-refused
 returns-in-Err-clause-refused g c =
     refused_calm g.D.Disk c.args.disk c.measure.new.disk _ c.measure.ensures.calm (told_nothing (g.D.Disk.contents c.args.disk)) (λ is. c.in-Err.ensures.cause.failed) (λ is. absurd is)
 
-pub returns-then-size-ne557120-clause-refused : goal.returns-then-size-ne557120-clause-refused
-returns-then-size-ne557120-clause-refused g c =
+pub returns-then-size-ne-STORE_SIZE-clause-refused : goal.returns-then-size-ne-STORE_SIZE-clause-refused
+returns-then-size-ne-STORE_SIZE-clause-refused g c =
     let d = g.D.Disk in
     let now = c.measure.new.disk in
     refused_calm d c.args.disk now _ c.measure.ensures.calm
-    (no_store_of (d.contents c.args.disk) c.in-Ok.size c.if-size-eq0.false c.if-size-ne557120.true (rw (← c.measure.ensures.calm.same) (measured_as (d.contents now) (d.size now) c.in-Ok.size (sym c.in-Ok.ensures.size) (g.met.D.Disk.measured now))))
+    (no_store_of (d.contents c.args.disk) c.in-Ok.size c.if-size-eq0.false c.if-size-ne-STORE_SIZE.true (rw (← c.measure.ensures.calm.same) (measured_as (d.contents now) (d.size now) c.in-Ok.size (sym c.in-Ok.ensures.size) (g.met.D.Disk.measured now))))
     (λ is. absurd is) (λ is. c.in-Ok.ensures.durable)
 
 pub returns-clause-opened : goal.returns-clause-opened

@@ -1,4 +1,4 @@
-use Rattle.store_core.proofs.Common.{arith, cell_state, Free, Leads, map_get, None, Plain, refl, Rose, Storage, subst, sym, Writing, ◌<◌}
+use Rattle.store_core.proofs.Common.{arith, cell_state, Free, Leads, map_get, None, Plain, refl, Rose, Storage, subst, sym, Writing, ◌<◌, cell_count}
 use Rattle.key_cells.proofs.Counts.{has_id_open}
 use Rattle.key_cells.proofs.Free.{open_not_free}
 use Rattle.store_core.proofs.Kept.{key_of_cell, is_persistent}
@@ -27,7 +27,7 @@ returns-in-Ok-clause-destroyed g c = λ start opening h all e s call is.
     let ensures = c.in-Ok.ensures in
     let sized = s.holds.directory.sized in
     let there = c.requires.there.within in
-    let within : c.args.cell < 512 = omega arith in
+    let within : c.args.cell < cell_count = omega arith in
     let key = key_of_cell c.args.self.now.file.cells.states.items m c.args.id.0 c.args.cell s.holds.directory within c.requires.there.here in (
       destroys_kept g.D.Disk g.A.Devices g.C.Admission g.met.D.Disk.only_now c.args.self.now start opening h all e c.args.id.0 call c.destroy-closed.new.self c.destroy.new.self Plain c.args.cell s
           (record {
@@ -59,7 +59,7 @@ returns-in-Err-clause-failed g c = λ start opening h all e s call is.
     let ensures = c.in-Err.ensures in
     let sized = s.holds.directory.sized in
     let there = c.requires.there.within in
-    let within : c.args.cell < 512 = omega arith in
+    let within : c.args.cell < cell_count = omega arith in
     let key = key_of_cell old.states.items m c.args.id.0 c.args.cell s.holds.directory within c.requires.there.here in (
       destroys_kept g.D.Disk g.A.Devices g.C.Admission g.met.D.Disk.only_now c.args.self.now start opening h all e c.args.id.0 call c.destroy-closed.new.self c.destroy.new.self (Storage (Writing closed)) c.args.cell s
           (record {
