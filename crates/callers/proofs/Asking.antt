@@ -96,7 +96,7 @@ module _ {D A C : Type 0} (w : World D A C) (n : ℕ) (old new : Caller D A C) (
       operation_is = x.holds.0 ∙ unkeyed (operation_at r.operations handle) (unleased_key cell (operation_at r.operations handle) stands none);
       lives = sym (ap (λ o. is_alive service.store (key_of_operation o)) x.holds.0 ∙ ap (is_alive service.store) (unleased_key cell (operation_at r.operations handle) stands none));
       random = x.random;
-    }) (standing w n old new r turns call Plain rank before e c first last (by_none w n old new r turns call Plain rank before e c))
+    }) (standing w n old new r turns call Plain rank before e c first last (by_none w n old new r turns call Plain rank before e c) (λ service s. tt))
 
     -- with one, its number tells
     pub alive_with : (lease : Reading) (alive : Bool) → cell.lease ≡ Some lease → LeavesAllKeys w old.pass.me.0 call →
@@ -109,7 +109,8 @@ module _ {D A C : Type 0} (w : World D A C) (n : ℕ) (old new : Caller D A C) (
         (by_after w (Tells alive lease) (counts_only leaves) tells)
         (λ m told.
         let x = chosen m (operation_at r.operations handle) lease creation.0 creation.1 creation.2 (either alive lease (counted m) told) in
-        let o = rekeyed x.0 (operation_at r.operations handle) in (o, x.1, (x.0, refl, alive_by alive lease (counted m) (key_of_operation o) told (record { has = x.2.has; lives = x.2.lives })))))
+        let o = rekeyed x.0 (operation_at r.operations handle) in (o, x.1, (x.0, refl, alive_by alive lease (counted m) (key_of_operation o) told (record { has = x.2.has; lives = x.2.lives }))))
+        (λ service s. tt))
 
 -- the ranked turn of a call that asks so
 module _ {D A C : Type 0} (w : World D A C) (n : ℕ) (old new : Caller D A C) (r : IsReady w n old) (call : Request) (rank : ℕ) (handle : ℕ) (first : 1 ≤ handle) (last : handle ≤ 4)

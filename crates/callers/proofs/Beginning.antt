@@ -1,8 +1,9 @@
 -- A caller after a setup.
-use Rattle.callers.proofs.Common.{After, AnswersReply, AreOperations, ArePairs, Caller, DecidesAfter, Entry, Err, FaultMark, HandleOperation, Held, HoldsLease, Inactive, IsAnswered, IsAt, IsCalled, IsChanged, IsEntered, IsLent, IsOperation, IsReady, IsRefused, KeyUse, Keyed, KeyedSetup, Keyless, KeylessSetup, KnowsBefore, Legal, List, None, Ok, OnHandle, OperationHandle, Output, Pairs, Plain, Reading, ReadsKey, Request, Result, Served, Service, Setup, Status, TellsFailure, World, ap, applied, arith, buffer_after, busy, cond, count_by, entries_of, failure_marked, false, get_or, id_read, is_inactive, is_ok, known_more, known_told, lease_pair, leases_of, length, mark_of, may_change_keys, model_setup, not, operation_at, operation_of, outcome_of, plain_reply, refl, refusal_without_key, replay, set-get_or, set_up_by, set_up_with_key, set_up_without_key, setups, stays, subst, sym, true, use_refusal, used_for, with_operation_at, work_without_key, ℕ, ◌+◌, ◌-◌, ◌<◌, ◌^◌, ◌∙◌, ◌∷◌, ◌≡◌, ◌≤◌}
+use Rattle.callers.proofs.Common.{After, AnswersReply, AreOperations, ArePairs, Caller, DecidesAfter, Entry, Err, FaultMark, HandleOperation, Held, HoldsLease, Inactive, IsAnswered, IsAt, IsCalled, IsChanged, IsEntered, IsLent, IsOperation, IsReady, IsRefused, KeyUse, Keyed, KeyedSetup, Keyless, KeylessSetup, KnowsBefore, Legal, List, None, Ok, OnHandle, OperationHandle, Output, Pairs, Plain, Reading, ReadsKey, Request, Result, Served, Service, Setup, Status, TellsFailure, World, ap, applied, arith, buffer_after, busy, cond, count_by, counted, entries_of, failure_marked, false, get_or, id_read, is_inactive, is_ok, known_more, known_told, lease_pair, leases_of, length, mark_of, may_change_keys, model_setup, not, operation_at, operation_of, outcome_of, plain_reply, refl, refusal_without_key, replay, set-get_or, set_up_by, set_up_with_key, set_up_without_key, setups, stays, subst, sym, true, use_refusal, used_for, with_operation_at, work_without_key, ℕ, ◌+◌, ◌-◌, ◌<◌, ◌^◌, ◌∙◌, ◌∷◌, ◌≡◌, ◌≤◌}
 use Rattle.psa_status.specs.declared.Status.TheVariants as status
+use Rattle.store_model.specs.Prelude.{MayBeMarked}
 use Rattle.service_calls.specs.declared.output.Output.TheVariants as output
-use Rattle.callers.proofs.{HandleLists.busy_put, HandleLists.cell_at, HandleLists.few, HandleLists.once, HandleLists.tally-cons, Failing.answers_plain, Failing.set_up_plainly, Journeys.called, Looking.AreSpares, Looking.same_spares}
+use Rattle.callers.proofs.{HandleLists.busy_put, HandleLists.cell_at, HandleLists.few, HandleLists.once, HandleLists.tally-cons, Failing.answers_plain, Failing.set_up_plainly, Journeys.called, Looking.AreSpares, Looking.same_spares, Marked.plain_may, Marked.read_marked}
 use Rattle.callers.proofs.{Readying.applied_answered, Readying.applied_there, Readying.outcome_is, Readying.own_there, Readying.ready, Supposed.by_after, Supposed.by_none, Supposed.quiet_leaves, Supposed.standing}
 use Rattle.callers.proofs.SettingUp.{begun_lent, counts, draws_none, quiet, reads, set_up_lent, set_up_refused, set_up_twice, still}
 
@@ -32,7 +33,8 @@ module _ {D A C : Type 0} (w : World D A C) (old new : Caller D A C) (r : IsRead
   pub sets_up : (s : Setup) → request ≡ OnHandle handle (model_setup s) → mark ≡ Plain →
       KnowsBefore w (λ service. outcome_of service e ≡ applied service old.number handle (set_up_by service.store (operation_at r.operations handle) s)) before e
   sets_up s asks plain =
-      known_more (λ service x. serves s asks plain service x.holds.0) (standing w 4 old new r 1 request mark rank before e made first last (by_none w 4 old new r 1 request mark rank before e made))
+      known_more (λ service x. serves s asks plain service x.holds.0) (standing w 4 old new r 1 request mark rank before e made first last (by_none w 4 old new r 1 request mark rank before e made)
+      (λ service x. plain_may service old.number request plain))
 
   module _ (after : After Held) (applies : KnowsBefore w (λ service. outcome_of service e ≡ applied service old.number handle after) before e) where
     -- what such a call changes of a caller beside its pass and its handles, where so many leases are kept and it counts so often
@@ -138,7 +140,9 @@ module _ {D A C : Type 0} (w : World D A C) (old new : Caller D A C) (r : IsRead
     refuses why marked decided = known_more (λ service x.
         outcome_is service e old.number (OnHandle handle (model_setup (Keyed s))) (mark_of why) (i.by ∙ r.number) (i.call_is ∙ asks) (i.mark_is ∙ marked)
         ∙ set_up_refused service old.number handle s wanted why uses (x.holds.0 ∙ free) x.holds.1)
-        (standing w 4 old new r 1 request mark rank before e made first last (by_after w (IsRefused (use_refusal wanted) s.key.0 why) (quiet_leaves w before e unchanging) decided))
+        (standing w 4 old new r 1 request mark rank before e made first last (by_after w (IsRefused (use_refusal wanted) s.key.0 why) (quiet_leaves w before e unchanging) decided)
+        (λ service x. subst (MayBeMarked service old.number request) (sym marked) (subst (λ q. MayBeMarked service old.number q (mark_of why)) (sym asks)
+        (read_marked service old.number (OnHandle handle (model_setup (Keyed s))) (use_refusal wanted) s.key.0 why (counted service.store) refl (reads service old.number handle s (ap is_inactive (x.holds.0 ∙ free))) x.holds.1))))
 
     module _ (lease : Reading) (plain : mark ≡ Plain) (decided : DecidesAfter w (IsLent (use_refusal wanted) s.key.0 lease) before e) where
       abbrev begun : After Held
@@ -147,7 +151,8 @@ module _ {D A C : Type 0} (w : World D A C) (old new : Caller D A C) (r : IsRead
       lends : KnowsBefore w (λ service. outcome_of service e ≡ applied service old.number handle begun) before e
       lends = known_more (λ service x.
           serves (Keyed s) asks plain service x.holds.0 ∙ ap (applied service old.number handle) (ap (λ o. set_up_with_key service.store o s) free ∙ set_up_lent service.store s wanted lease uses x.holds.1))
-          (standing w 4 old new r 1 request mark rank before e made first last (by_after w (IsLent (use_refusal wanted) s.key.0 lease) (quiet_leaves w before e unchanging) decided))
+          (standing w 4 old new r 1 request mark rank before e made first last (by_after w (IsLent (use_refusal wanted) s.key.0 lease) (quiet_leaves w before e unchanging) decided)
+          (λ service x. plain_may service old.number request plain))
 
       pub lent_ready : HoldsLease old.handles.list.items new.handles.list.items r.operations handle begun.operation lease → own ≡ lease_pair lease ∷ old.pass.me.0.holding →
           new.number ≡ old.number → new.stream ≡ old.stream → new.spent ≡ old.spent + 1 → AreSpares 1 old.spares new.spares → old.spent < 2 ^ 48 → IsAt w new.pass → Legal w (entries_of new.pass.me.0.seen) → IsReady w 0 new

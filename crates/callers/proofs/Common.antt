@@ -1,6 +1,6 @@
 -- What several proofs of this crate cite of its words, and of other crates'.
-pub use Rattle.callers.specs.Prelude.{AreIdle, AreOperations, ArePairs, FailsDerivation, HoldsLease, IsAnswered, IsAsked, IsBack, IsCalled, IsChanged, IsCreated, IsGivenBack, IsOwnPart, IsReady, IsReplied, IsRetired, IsRetiring, KnowsAlive, KnowsBefore, Legal, MakesNoCall, MayGoBack, SameButPass, TellsFailure, TellsReply, busy, drawn_by, drawn_for, failure_in, failure_marked, failure_told, leases_of, operation_at, pairs_of, rekeyed, with_operation_at, with_secret, without_bytes}
-pub use Rattle.callers.proofs.Known.{KnowsTold, known_more, known_told}
+pub use Rattle.callers.specs.Prelude.{AreIdle, AreOperations, ArePairs, FailsDerivation, HoldsLease, IsAnswered, IsAsked, IsBack, IsCalled, IsChanged, IsCreated, IsGivenBack, IsOwnPart, IsReady, IsReplied, IsRetired, IsRetiring, KnowsAlive, KnowsBefore, KnowsReply, Legal, MakesNoCall, MayGoBack, SameButPass, TellsFailure, busy, drawn_by, drawn_for, failure_in, failure_marked, failure_told, leases_of, operation_at, pairs_of, rekeyed, with_operation_at, with_secret, without_bytes}
+pub use Rattle.callers.proofs.Known.{KnowsTold, known_more, known_told, own_reply}
 pub use Rattle.callers.specs.{declared.caller.Caller.Caller, declared.handles.Handles.Handles}
 pub use Rattle.derivation_states.specs.KeySteps.{output_key_refusal}
 pub use Rattle.key_attributes.specs.{declared.Attributes.Attributes, declared.KeyId.KeyId}

@@ -3,7 +3,8 @@ use Rattle.callers.proofs.Common.{Active, Attributes, DerivationWork, Deriving, 
 use Rattle.psa_status.specs.declared.Status.TheVariants as status
 use Rattle.store_core.specs.declared.creating.NotMade.TheVariants as unmade
 use Rattle.store_core.specs.declared.creating.Unkept.TheVariants as unkept
-use Rattle.callers.proofs.{KeySizes.few_recorded, KeySizes.front_recorded, Rekeying.LivesBy, Rekeying.chosen, Rekeying.no_test, Rekeying.part_rekeyed, SettingUp.undrawn_own}
+use Rattle.store_model.specs.Prelude.{MayBeMarked}
+use Rattle.callers.proofs.{KeySizes.few_recorded, KeySizes.front_recorded, Marked.unmade_marked, Rekeying.LivesBy, Rekeying.chosen, Rekeying.no_test, Rekeying.part_rekeyed, SettingUp.undrawn_own}
 
 -- a lease, where there is one, is of the operation's key
 abbrev pub IsLeaseOf : Option Reading → Option KeyCreation → Type 0
@@ -128,6 +129,10 @@ module _ (service : Service) (caller handle : ℕ) (a : Attributes) (w : Derivat
   underived_key (unmade.Failed unkept.Hardware) is =
       let none : (handle_step service caller handle (OutputKey a)).reply.needed ≡ 0 = ap (λ (s : Served). s.reply.needed) (derived_made is.0 is.1).0 in
       ap (λ n. record { service = with_own service (counted service.store) caller (with_operation (own_of service caller) handle InError); reply = spoiled status.HardwareFailure n }) none ∙ failed status.HardwareFailure
+
+  pub underived_marked : (why : NotMade) → IsUnmade (RecordsStated lease caller a (length bytes)) why service.store → MayBeMarked service caller (OnHandle handle (OutputKey a)) (mark_unmade why)
+  underived_marked = unmade_marked service caller (OnHandle handle (OutputKey a)) refl (RecordsStated lease caller a (length bytes)) (next_derived w (stated_bytes a))
+      (λ kept records. ap (λ (s : Served). s.service.store) (derived_made kept records).0) (λ kept records. ap (λ (s : Served). s.reply) (derived_made kept records).0)
 
   -- the operation that is left where a key is made
   abbrev pub given_to : HandleOperation

@@ -2,7 +2,8 @@
 use Rattle.callers.proofs.Common.{Attributes, Bool, Caller, CreatesKey, Entry, Err, FaultMark, Generate, GoesOn, HandleOperation, IsMade, IsOwnPart, IsReady, IsSound, IsUnmade, KeyId, List, None, NotMade, Ok, OnStore, Option, Outcome, Plain, Random, RecordsStated, Request, Result, Service, Some, Status, Store, World, ap, arith, created_unless, drawn_for, false, first_row, generated, generation_of, if◌then◌else◌, inl, inr, is_destruction, length, mark_unmade, nat_lt, nat_tests, next_bytes, next_random, own_of, plain_step, recorded_of, refl, replay, serve, stated_bits_rows, stated_bytes, step, subst, sym, true, unless, words_used, ℕ, ◌+◌, ◌<◌, ◌>>=◌, ◌∙◌, ◌≡◌, ◌≤◌, IsStartOf, ToldBy}
 use Rattle.store_core.specs.declared.creating.NotMade.TheVariants as unmade
 use Rattle.store_core.specs.declared.creating.Unkept.TheVariants as unkept
-use Rattle.callers.proofs.{KeyReplies.Gives, KeyReplies.refusal_gives, KeySizes.few_or_many, KeySizes.few_recorded, Owned.failed_own, Owned.stored_own, Readying.random_there, Storing.DrawsNone}
+use Rattle.store_model.specs.Prelude.{MayBeMarked}
+use Rattle.callers.proofs.{KeyReplies.Gives, KeyReplies.refusal_gives, KeySizes.few_or_many, KeySizes.few_recorded, Marked.unmade_marked, Owned.failed_own, Owned.stored_own, Readying.random_there, Storing.DrawsNone}
 
 -- THE ONE-THREAD SERVICE
 
@@ -32,6 +33,15 @@ pub generation_replies : (service : Service) (caller : ℕ) (a : Attributes) (by
 generation_replies service caller a bytes whole long kept records =
     ap (λ k. (generated service.store caller (next_random service caller) (stated_bytes a) k).reply) (whole_bytes service.store caller a whole ∙ sym (records ∙ ap (recorded_of service.store caller a) long))
     ∙ reply_is service.store caller a (next_random service caller) (stated_bytes a) bytes kept
+
+-- and a key that isn't made is marked as one
+pub generated_marked : (service : Service) (caller : ℕ) (a : Attributes) (count : ℕ) → first_row (stated_bits_rows a) ≡ None → count ≡ stated_bytes a → (why : NotMade) → IsUnmade (RecordsStated None caller a count) why service.store →
+    MayBeMarked service caller (OnStore (Generate a)) (mark_unmade why)
+generated_marked service caller a count whole counts = unmade_marked service caller (OnStore (Generate a)) refl (RecordsStated None caller a count) (next_random service caller (stated_bytes a))
+    (λ recorded is. ap (λ k. (generated service.store caller (next_random service caller) (stated_bytes a) k).store) (same recorded is)) (λ recorded is. ap (λ k. (generated service.store caller (next_random service caller) (stated_bytes a) k).reply) (same recorded is))
+  where
+    same : (recorded : Attributes) → RecordsStated None caller a count service.store (Ok recorded) → generation_of service.store caller a ≡ Ok recorded
+    same recorded is = whole_bytes service.store caller a whole ∙ (ap (recorded_of service.store caller a) (sym counts) ∙ sym is)
 
 -- and bits that say none draw nothing
 pub no_bytes_drawn : (a : Attributes) → (first_row (stated_bits_rows a) ≡ None → ⊥) → DrawsNone (Generate a)

@@ -196,7 +196,7 @@ module _ {D A C : Type 0} (w : World D A C) {n : ℕ} {old : Caller D A C} (r : 
     (first : 1 ≤ handle) (last : handle ≤ 4) (asks : request ≡ OnHandle handle Abort) where
   aborts : KnowsBefore w (λ service. outcome_of service e ≡ applied service old.number handle (ends done)) before e
   aborts = known_more (λ service x. outcome_is service e old.number (OnHandle handle Abort) Plain (i.by ∙ r.number) (i.call_is ∙ asks) i.mark_is)
-      (at_store w n old settled r 1 request Plain rank before e (called i) (by_none w n old settled r 1 request Plain rank before e (called i)))
+      (at_store w n old settled r 1 request Plain rank before e (called i) (by_none w n old settled r 1 request Plain rank before e (called i)) (λ service p. tt))
 
   -- an operation that is over has no end that counted
   aborted_ready : 2 ≤ n + 2 * once (not (is_inactive (operation_at r.operations handle))) → IsAt w new.pass → Legal w (entries_of new.pass.me.0.seen) → settled.number ≡ old.number → settled.stream ≡ old.stream → settled.spent ≡ old.spent → IsReady w 0 new

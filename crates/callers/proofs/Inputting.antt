@@ -3,8 +3,9 @@ use Rattle.callers.proofs.Common.{Active, After, Bool, Caller, DecidesAfter, Der
 use Rattle.psa_status.specs.declared.Status.TheVariants as status
 use Rattle.service_calls.specs.declared.output.Output.TheVariants as output
 use Rattle.store_model.specs.KeyUse as held
+use Rattle.store_model.specs.Prelude.{MayBeMarked}
 use Rattle.operation_handles.proofs.ServedInputs.{inputs}
-use Rattle.callers.proofs.{Beginning.IsBegun, Beginning.begun_answered, Beginning.changed_ready, Beginning.kept_ready, HandleLists.busy_put, HandleLists.once, Failing.refused_tells, Failing.use_plainly, Journeys.called, Looking.AreSpares}
+use Rattle.callers.proofs.{Beginning.IsBegun, Beginning.begun_answered, Beginning.changed_ready, Beginning.kept_ready, HandleLists.busy_put, HandleLists.once, Failing.refused_tells, Failing.use_plainly, Journeys.called, Looking.AreSpares, Marked.plain_may, Marked.read_marked}
 use Rattle.callers.proofs.{Readying.outcome_is, Readying.own_there, SettingUp.undrawn_own, Rekeying.part_rekeyed, Rekeying.part_replies, Supposed.by_after, Supposed.quiet_leaves, Supposed.standing}
 
 -- THE ONE-THREAD SERVICE
@@ -73,7 +74,8 @@ module _ {D A C : Type 0} (w : World D A C) (old new : Caller D A C) (r : IsRead
     gives_key = known_more (λ service x.
         outcome_is service e old.number (OnHandle handle (InputKey step id)) Plain (i.by ∙ r.number) (i.call_is ∙ asks) (i.mark_is ∙ plain)
         ∙ input_lent service old.number handle step id wanted (takes_there service x.holds.0) lease takes.w (ap (part_of derivation_part) x.holds.0 ∙ takes.derives) x.holds.1)
-        (standing w 4 old new r 1 request mark rank before e (called i) first last (by_after w (IsLent (use_refusal wanted) id lease) (quiet_leaves w before e unchanging) decided))
+        (standing w 4 old new r 1 request mark rank before e (called i) first last (by_after w (IsLent (use_refusal wanted) id lease) (quiet_leaves w before e unchanging) decided)
+        (λ service x. plain_may service old.number request plain))
 
     pub given_ready : HoldsLease old.handles.list.items new.handles.list.items r.operations handle given_key.operation lease → own ≡ lease_pair lease ∷ old.pass.me.0.holding → new.number ≡ old.number → new.stream ≡ old.stream →
         new.spent ≡ old.spent → AreSpares 1 old.spares new.spares → IsAt w new.pass → Legal w (entries_of new.pass.me.0.seen) → IsReady w 0 new
@@ -88,7 +90,9 @@ module _ {D A C : Type 0} (w : World D A C) (old new : Caller D A C) (r : IsRead
     refuses_key = known_more (λ service x.
         outcome_is service e old.number (OnHandle handle (InputKey step id)) (mark_of why) (i.by ∙ r.number) (i.call_is ∙ asks) (i.mark_is ∙ marked)
         ∙ input_refused service old.number handle step id wanted (takes_there service x.holds.0) why x.holds.1)
-        (standing w 4 old new r 1 request mark rank before e (called i) first last (by_after w (IsRefused (use_refusal wanted) id why) (quiet_leaves w before e unchanging) decided))
+        (standing w 4 old new r 1 request mark rank before e (called i) first last (by_after w (IsRefused (use_refusal wanted) id why) (quiet_leaves w before e unchanging) decided)
+        (λ service x. subst (MayBeMarked service old.number request) (sym marked) (subst (λ q. MayBeMarked service old.number q (mark_of why)) (sym asks)
+        (read_marked service old.number (OnHandle handle (InputKey step id)) (use_refusal wanted) id why (counted service.store) refl (reads_input service old.number handle step id wanted (takes_there service x.holds.0)) x.holds.1))))
 
     pub failed_ready : IsChanged old.handles.list.items new.handles.list.items r.operations handle InError None → own ≡ old.pass.me.0.holding → new.number ≡ old.number → new.stream ≡ old.stream → new.spent ≡ old.spent →
         AreSpares 0 old.spares new.spares → IsAt w new.pass → Legal w (entries_of new.pass.me.0.seen) → IsReady w 0 new

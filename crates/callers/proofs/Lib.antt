@@ -6,6 +6,7 @@ pub mod Owned
 pub mod Readying
 pub mod Supposed
 pub mod Rekeying
+pub mod Marked
 pub mod Failing
 pub mod Asking
 pub mod Storing

@@ -1,10 +1,10 @@
 -- A caller after a call that creates a key of derived bytes.
-use Rattle.callers.proofs.Common.{Active, All, AreOperations, Attributes, Bool, Caller, CreatesKey, DecidesBefore, DerivationWork, Deriving, Entry, Err, FailsDerivation, FaultMark, HandleOperation, InError, Inactive, InsufficientData, IsAnswered, IsAsked, IsAt, IsBack, IsCalled, IsChanged, IsClear, IsCreated, IsDerivedKey, IsMade, IsOperation, IsOwn, IsOwnPart, IsReady, IsReplied, IsSound, IsUnmade, KeyCreation, KeyId, KnowsBefore, KnowsTold, LeavesAllKeys, Legal, List, None, NotMade, Ok, OnHandle, Operation, OperationHandle, Option, OutputKey, Pairs, Plain, RandomStream, Reading, RecordsStated, Reply, Request, Result, Served, Service, Some, Status, Store, Success, TellsFailure, World, [], ap, applied, arith, count_by, created, derivation_part, derived_key_refused, draws_none, entries_of, exhausted, fails, false, first_row, first_row-back, get_or, get_or-set_same, goes_on, has_live_key, if◌then◌else◌, inr, is_active, is_destruction, key_of_operation, known_more, known_told, leases_of, length, length-take-le, mark_unmade, min, nat_lt, next_derived, not, on_part, operation_at, operation_of, outcome_of, output_key_refusal, output_key_rows, outputs, own_of, part_of, plain_step, refl, refused_by, rekeyed, replay, serve, set-set, start_of, stated_bytes, status_unmade, subst, sym, take, take_all, taken_from, true, unless_failed, vec_capacity, with_drawn, with_operation, with_operation_at, without, without_bytes, ℕ, ◌&&◌, ◌+◌, ◌-◌, ◌<◌, ◌==◌, ◌∙◌, ◌∷◌, ◌≡◌, ◌≤◌}
+use Rattle.callers.proofs.Common.{Active, All, AreOperations, Attributes, Bool, Caller, CreatesKey, DecidesBefore, DerivationWork, Deriving, Entry, Err, FailsDerivation, FaultMark, HandleOperation, InError, Inactive, InsufficientData, IsAnswered, IsAsked, IsAt, IsBack, IsCalled, IsChanged, IsClear, IsCreated, IsDerivedKey, IsMade, IsOperation, IsOwn, IsOwnPart, IsReady, IsReplied, IsSound, IsUnmade, KeyCreation, KeyId, KnowsBefore, KnowsTold, LeavesAllKeys, Legal, List, None, NotMade, Ok, OnHandle, Operation, OperationHandle, Option, OutputKey, Pairs, Plain, RandomStream, Reading, RecordsStated, Reply, Request, Result, Served, Service, Some, Status, Store, Success, TellsFailure, World, [], ap, applied, arith, count_by, created, derivation_part, derived_key_refused, draws_none, entries_of, exhausted, fails, false, first_row, first_row-back, get_or, get_or-set_same, goes_on, has_live_key, if◌then◌else◌, inr, is_active, is_destruction, key_of_operation, known_more, known_told, leases_of, length, length-take-le, mark_unmade, min, nat_lt, next_derived, not, on_part, operation_at, operation_of, outcome_of, output_key_refusal, output_key_rows, outputs, own_of, own_reply, part_of, plain_step, refl, refused_by, rekeyed, replay, serve, set-set, start_of, stated_bytes, status_unmade, subst, sym, take, take_all, taken_from, true, unless_failed, vec_capacity, with_drawn, with_operation, with_operation_at, without, without_bytes, ℕ, ◌&&◌, ◌+◌, ◌-◌, ◌<◌, ◌==◌, ◌∙◌, ◌∷◌, ◌≡◌, ◌≤◌}
 use Rattle.service_calls.specs.declared.output.Output.TheVariants as output
-use Rattle.store_model.specs.Prelude.{given as given_bytes}
+use Rattle.store_model.specs.Prelude.{MayBeMarked, given as given_bytes}
 use Rattle.derivation_states.specs.KeySteps as alone
 use Rattle.callers.proofs.{Asking.leased_key, Asking.unleased_key, Beginning.at_handle, HandleLists.busy_put, HandleLists.cell_at, HandleLists.named_alike, HandleLists.names_is, HandleLists.names_lease, HandleLists.once, HandleLists.tally-cons}
-use Rattle.callers.proofs.Deriving.{IsLeaseOf, IsOneFor, LivesAs, TellsOf, lease_lives, made_tells, one_for, unmade_tells, derived_leaves, derived_replies, made_owns, underived_key}
+use Rattle.callers.proofs.Deriving.{IsLeaseOf, IsOneFor, LivesAs, TellsOf, lease_lives, made_tells, one_for, unmade_tells, derived_leaves, derived_replies, made_owns, underived_key, underived_marked}
 use Rattle.callers.proofs.{Handling.handled_answered, Handling.handled_ready, Inputting.derives_busy, Inputting.refused_drawn, Made.made_gives, Owned.set_operation, Owned.set_own, Owned.sound_replay}
 use Rattle.callers.proofs.{Readying.answered, Readying.known, Readying.outcome_is, Readying.own_there, Readying.ready, SettingUp.undrawn_own, Storing.decided_known, Rekeying.part_rekeyed, Rekeying.part_replies}
 use Rattle.callers.proofs.Supposed.{DecidesAt, IsSupposed, by_before, supposed}
@@ -132,10 +132,11 @@ module _ {D A C : Type 0} (w : World D A C) (old : Caller D A C) (r : IsReady w 
 
   -- a service with the derivation, by a store of which P holds
   one_there : (now : Caller D A C) (turns : ℕ) (mark : FaultMark) (rank : ℕ) (before : List Entry) (e : Entry) (c : IsCalled old.pass.me.0 now.pass.me.0 turns request mark rank before e) (P : Store → Type 0) → ((m : Store) → P m → TellsOf lease m) → DecidesAt w P before e →
+      ((service : Service) → IsSupposed w 4 old now r turns request mark rank before e c first last (λ o m. IsOneFor m lease o (operation_at r.operations handle) × P m) service → MayBeMarked service old.number request mark) →
       KnowsBefore w (IsSupposed w 4 old now r turns request mark rank before e c first last (λ o m. IsOneFor m lease o (operation_at r.operations handle) × P m)) before e
-  one_there now turns mark rank before e c P tells decides =
+  one_there now turns mark rank before e c P tells decides may =
       supposed w 4 old now r turns request mark rank before e c first last (λ o m. IsOneFor m lease o (operation_at r.operations handle) × P m) decides
-      (λ m p. let x = one_for m (operation_at r.operations handle) lease given.of (tells m p) in (x.0, x.1, (x.2, p)))
+      (λ m p. let x = one_for m (operation_at r.operations handle) lease given.of (tells m p) in (x.0, x.1, (x.2, p))) may
 
   module _ (new : Caller D A C) (rank : ℕ) where
     -- THE KEY IS MADE
@@ -174,13 +175,13 @@ module _ {D A C : Type 0} (w : World D A C) (old : Caller D A C) (r : IsReady w 
 
       pub output_answered : (buffer : List ℕ) → IsAnswered w old.pass.me.0 new.pass.me.0 request rank (Ok (output.Identifier id)) buffer buffer
       output_answered buffer =
-          answered w 4 old new r 2 request Plain rank c.before c.entry c.called (Ok (output.Identifier id)) buffer buffer (λ start is. refl) (known_more (λ service x told.
+          answered w 4 old new r 2 request Plain rank c.before c.entry c.called (Ok (output.Identifier id)) buffer buffer (λ start is. refl) (own_reply w (IsReplied (Ok (output.Identifier id)) buffer buffer) (known_more (λ service x.
           let one = x.holds.0 in
           let gives = made_gives service old.number (OnHandle handle (OutputKey a)) Records bytes
           (derived_replies service old.number handle a given.work (one.part ∙ given.derives) (ap (λ own. output_key_refusal own a) one.part ∙ given.passes) lease one.lives bytes given.short given.front) id x.holds.1 in
           subst (λ (s : Served). IsReplied (Ok (output.Identifier id)) buffer buffer s.reply)
           (sym (outcome_is service c.entry old.number (OnHandle handle (OutputKey a)) Plain (c.called.by ∙ r.number) (c.called.call_is ∙ asks) c.called.mark_is)) (gives.answers, gives.unwritten buffer))
-          (one_there new 2 Plain rank c.before c.entry c.called (IsMade Records old.number id.0) (made_tells lease old.number a (length bytes) id.0) (by_before w c.decided)))
+          (one_there new 2 Plain rank c.before c.entry c.called (IsMade Records old.number id.0) (made_tells lease old.number a (length bytes) id.0) (by_before w c.decided) (λ service x. tt))))
 
     -- NONE IS MADE: the derivation is in error, and its lease goes back
     module _ (settled : Caller D A C) (why : NotMade) (c : IsCreated old.pass.me.0 settled.pass.me.0 request (mark_unmade why) rank (DecidesBefore w (IsUnmade Records why))) (back_lease : Option Reading)
@@ -190,7 +191,10 @@ module _ {D A C : Type 0} (w : World D A C) (old : Caller D A C) (r : IsReady w 
           let one = x.holds.0 in
           outcome_is service c.entry old.number (OnHandle handle (OutputKey a)) (mark_unmade why) (c.called.by ∙ r.number) (c.called.call_is ∙ asks) c.called.mark_is
           ∙ underived_key service old.number handle a given.work (one.part ∙ given.derives) (ap (λ own. output_key_refusal own a) one.part ∙ given.passes) lease one.lives bytes given.short why x.holds.1)
-          (one_there settled 2 (mark_unmade why) rank c.before c.entry c.called (IsUnmade Records why) (λ m. unmade_tells lease old.number a (length bytes) m why) (by_before w c.decided))
+          (one_there settled 2 (mark_unmade why) rank c.before c.entry c.called (IsUnmade Records why) (λ m. unmade_tells lease old.number a (length bytes) m why) (by_before w c.decided) (λ service x.
+          let one = x.holds.0 in
+          subst (λ q. MayBeMarked service old.number q (mark_unmade why)) (sym asks)
+          (underived_marked service old.number handle a given.work (one.part ∙ given.derives) (ap (λ own. output_key_refusal own a) one.part ∙ given.passes) lease one.lives bytes given.short why x.holds.1)))
 
       pub unmade_ready : settled.number ≡ old.number → settled.stream ≡ old.stream → settled.spent ≡ old.spent → IsAt w new.pass → Legal w (entries_of new.pass.me.0.seen) → IsReady w 0 new
       unmade_ready number stream spent at legal =

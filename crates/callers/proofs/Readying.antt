@@ -1,5 +1,5 @@
 -- What is known of the one-thread service at a caller's entry, and the caller after the call.
-use Rattle.callers.proofs.Common.{After, All, AnswersReply, AreOperations, ArePairs, Caller, Entry, FaultMark, GoesOn, HandleOperation, Held, IsAnswered, IsAt, IsCalled, IsClear, IsOwnPart, IsReady, IsReplied, IsSound, KnowsBefore, KnowsTold, Legal, List, Output, Request, Result, Served, Service, Settings, Status, TURNS, TellsFailure, TellsReply, World, [], ap, applied, arith, buffer_after, busy, entries_of, known_more, leases_of, leaves_settings, length, next_bytes, next_random, outcome_of, own_of, random_bytes, refl, replay, serve, start_of, subst, sym, vec_capacity, with_operation_at, words_used, ℕ, ◌*◌, ◌++◌, ◌+◌, ◌^◌, ◌∙◌, ◌∷◌, ◌≡◌, ◌≤◌, IsStartOf, ToldBy}
+use Rattle.callers.proofs.Common.{After, All, AnswersReply, AreOperations, ArePairs, Caller, Entry, FaultMark, GoesOn, HandleOperation, Held, IsAnswered, IsAt, IsCalled, IsClear, IsOwnPart, IsReady, IsReplied, IsSound, KnowsBefore, KnowsReply, KnowsTold, Legal, List, Output, Request, Result, Served, Service, Settings, Status, TURNS, TellsFailure, World, [], ap, applied, arith, buffer_after, busy, entries_of, known_more, leases_of, leaves_settings, length, next_bytes, next_random, outcome_of, own_of, own_reply, random_bytes, refl, replay, serve, start_of, subst, sym, vec_capacity, with_operation_at, words_used, ℕ, ◌*◌, ◌++◌, ◌+◌, ◌^◌, ◌∙◌, ◌∷◌, ◌≡◌, ◌≤◌, IsStartOf, ToldBy}
 use Rattle.callers.proofs.{Journeys.own_after, Journeys.own_on, Journeys.told_front, Owned.applied_own, Owned.sound_replay}
 
 pub outcome_is : (service : Service) (e : Entry) (n : ℕ) (request : Request) (mark : FaultMark) → e.caller ≡ n → e.call ≡ request → e.mark ≡ mark → outcome_of service e ≡ serve service n request mark
@@ -52,7 +52,7 @@ module _ {D A C : Type 0} (w : World D A C) where
         }
 
     -- what is answered
-    pub answered : (result : Result Output Status) (shown given : List ℕ) → TellsFailure w result mark → KnowsBefore w (λ service. TellsReply w service old.number call → IsReplied result shown given (outcome_of service e).reply) before e →
+    pub answered : (result : Result Output Status) (shown given : List ℕ) → TellsFailure w result mark → KnowsReply w (IsReplied result shown given) before e →
         IsAnswered w old.pass.me.0 new.pass.me.0 call rank result shown given
     answered result shown given failure replied = record {
       turns = turns;
@@ -61,14 +61,14 @@ module _ {D A C : Type 0} (w : World D A C) where
       entry = e;
       called = c;
       failure = failure;
-      replied = known_more (λ service replies told. replies (subst (λ n. TellsReply w service n call) r.number told)) replied;
+      replied = replied;
     }
 
     -- by a call on a handle that replies as this does
     pub applied_answered : (after : After Held) → KnowsBefore w (λ service. (outcome_of service e).reply ≡ after.reply) before e → (result : Result Output Status) (shown given : List ℕ) → TellsFailure w result mark →
         AnswersReply result after.reply → given ≡ buffer_after shown after.reply → IsAnswered w old.pass.me.0 new.pass.me.0 call rank result shown given
     applied_answered after replies result shown given failure answers buffer =
-        answered result shown given failure (known_more (λ service same told. (subst (AnswersReply result) (sym same) answers, buffer ∙ ap (buffer_after shown) (sym same))) replies)
+        answered result shown given failure (own_reply w (IsReplied result shown given) (known_more (λ service same. (subst (AnswersReply result) (sym same) answers, buffer ∙ ap (buffer_after shown) (sym same))) replies))
 
     -- what a call changes of a caller beside its pass
     pub record IsMoved (changed : List HandleOperation) (slack : ℕ) : Type 0 where

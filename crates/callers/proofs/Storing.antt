@@ -1,6 +1,7 @@
 -- A caller after a call on the store. For one that creates a key a slot is reserved first, and a ranked turn follows.
-use Rattle.callers.proofs.Common.{AreOperations, ArePairs, Attributes, Call, Caller, CreatesKey, DecidesBefore, Entry, Err, FaultMark, HasNoFilling, IfErr, IfOk, IsAnswered, IsAt, IsCalled, IsCreated, IsLater, IsOwnPart, IsRanked, IsReady, IsReplied, KnowsBefore, KnowsTold, Legal, List, None, Ok, OnOk, OnStore, Opened, OperationHandle, Option, Output, Pairs, Random, RandomStream, Request, Result, SameButPass, Served, Service, Some, Status, TellsFailure, TellsReply, View, World, [], ap, arith, count_by, drawn_from, draws_none, entries_of, false, filling_pair, known_more, leases_of, length, names, nat_tests, next_random, outcome_of, own_of, pairs_of, refl, replay, serve, step, subst, sym, without_pair, words_used, ℕ, ◌+◌, ◌<◌, ◌==◌, ◌∙◌, ◌∷◌, ◌≡◌, ◌≤◌}
+use Rattle.callers.proofs.Common.{AreOperations, ArePairs, Attributes, Call, Caller, CreatesKey, DecidesBefore, Entry, Err, FaultMark, HasNoFilling, IfErr, IfOk, IsAnswered, IsAt, IsCalled, IsCreated, IsLater, IsOwnPart, IsRanked, IsReady, IsReplied, KnowsBefore, KnowsTold, Legal, List, None, Ok, OnOk, OnStore, Opened, OperationHandle, Option, Output, Pairs, Random, RandomStream, Request, Result, SameButPass, Served, Service, Some, Status, TellsFailure, View, World, [], ap, arith, count_by, drawn_from, draws_none, entries_of, false, filling_pair, known_more, leases_of, length, names, nat_tests, next_random, outcome_of, own_of, own_reply, pairs_of, refl, replay, serve, step, subst, sym, without_pair, words_used, ℕ, ◌+◌, ◌<◌, ◌==◌, ◌∙◌, ◌∷◌, ◌≡◌, ◌≤◌}
 use Rattle.store_model.specs.Store as model
+use Rattle.store_model.specs.Prelude.{MayBeMarked}
 use Rattle.slot_table.specs.Lent as lent
 use Rattle.callers.proofs.{HandleLists.first_named, HandleLists.once, HandleLists.tally-append, HandleLists.tally-cons, HandleLists.without, Journeys.called, Journeys.goes_on_before, Journeys.then_called, KeyReplies.Gives}
 use Rattle.callers.proofs.{Looking.AreSpares, Looking.same_spares, Owned.undrawn_own, Readying.answered, Readying.known, Readying.outcome_is, Readying.ready, Supposed.DecidesAt, Supposed.at_store, Supposed.by_none}
@@ -47,16 +48,21 @@ module _ {D A C : Type 0} (w : World D A C) (old new : Caller D A C) (r : IsRead
       })
 
   pub kept_answered : (result : Result Output Status) (shown given : List ℕ) → TellsFailure w result mark →
-      KnowsBefore w (λ service. TellsReply w service old.number (OnStore call) → IsReplied result shown given (serve service old.number (OnStore call) mark).reply) before e → IsAnswered w old.pass.me.0 new.pass.me.0 request rank result shown given
+      KnowsBefore w (λ service. IsReplied result shown given (serve service old.number (OnStore call) mark).reply) before e → IsAnswered w old.pass.me.0 new.pass.me.0 request rank result shown given
   kept_answered result shown given failure replied =
       answered w 4 old new r turns request mark rank before e c result shown given failure
-      (known_more (λ service replies told. subst (λ (s : Served). IsReplied result shown given s.reply) (sym (outcome service)) (replies (subst (TellsReply w service old.number) asks told))) replied)
+      (own_reply w (IsReplied result shown given) (known_more (λ service replies. subst (λ (s : Served). IsReplied result shown given s.reply) (sym (outcome service)) replies) replied))
+
+  -- its mark may stand on it in a service by a store of which P holds
+  abbrev pub MayStand : (model.Store → Type 0) → Type 0
+  MayStand P = (service : Service) → P service.store → MayBeMarked service old.number (OnStore call) mark
 
   -- so it was decided, and a service by such a store replies so
-  pub decided_answered : {P : model.Store → Type 0} → DecidesAt w P before e → (result : Result Output Status) (shown given : List ℕ) → TellsFailure w result mark →
+  pub decided_answered : {P : model.Store → Type 0} → DecidesAt w P before e → (result : Result Output Status) (shown given : List ℕ) → TellsFailure w result mark → MayStand P →
       ((service : Service) → P service.store → IsReplied result shown given (serve service old.number (OnStore call) mark).reply) → IsAnswered w old.pass.me.0 new.pass.me.0 request rank result shown given
-  decided_answered decides result shown given failure replies =
-      kept_answered result shown given failure (known_more (λ service s told. replies service s.1) (at_store w 4 old new r turns request mark rank before e c decides))
+  decided_answered decides result shown given failure may replies =
+      kept_answered result shown given failure (known_more (λ service s. replies service s.1)
+      (at_store w 4 old new r turns request mark rank before e c decides (λ service p. subst (λ q. MayBeMarked service old.number q mark) (sym asks) (may service p))))
 
 -- one turn, which draws nothing
 module _ {D A C : Type 0} (w : World D A C) (old new : Caller D A C) (r : IsReady w 4 old) {request : Request} (call : Call) (asks : request ≡ OnStore call) {mark : FaultMark} {rank : ℕ} {Decided : List Entry → Entry → Type 0}
@@ -79,6 +85,7 @@ module _ {D A C : Type 0} (w : World D A C) (old new : Caller D A C) (r : IsRead
       (undrawn_own service old.number call mark r.operations old.stream.place k.sound r.last k.own (none service.store old.number (next_random service old.number))))
 
   pub stored_answered : {P : model.Store → Type 0} → DecidesAt w P ranked.before ranked.after.entry → (result : Result Output Status) (shown given : List ℕ) → TellsFailure w result mark →
+      ((service : Service) → P service.store → MayBeMarked service old.number (OnStore call) mark) →
       ((service : Service) → P service.store → IsReplied result shown given (serve service old.number (OnStore call) mark).reply) → IsAnswered w old.pass.me.0 new.pass.me.0 request rank result shown given
   stored_answered = decided_answered w old new r 1 request call asks mark rank ranked.before ranked.after.entry made
 
@@ -88,10 +95,11 @@ module _ {D A C : Type 0} (w : World D A C) (old new : Caller D A C) (r : IsRead
 
   -- and leaves the buffer
   pub stored : SameButPass old new → DrawsNone call → IsAt w new.pass → Legal w (entries_of new.pass.me.0.seen) → {P : model.Store → Type 0} → DecidesAt w P ranked.before ranked.after.entry →
-      (result : Result Output Status) → TellsFailure w result mark → ((service : Service) → P service.store → Gives result (serve service old.number (OnStore call) mark).reply) →
+      (result : Result Output Status) → TellsFailure w result mark → ((service : Service) → P service.store → MayBeMarked service old.number (OnStore call) mark) →
+      ((service : Service) → P service.store → Gives result (serve service old.number (OnStore call) mark).reply) →
       IsReady w 0 new × ((buffer : List ℕ) → IsAnswered w old.pass.me.0 new.pass.me.0 request rank result buffer buffer)
-  stored same none at legal decides result failure gives =
-      (stored_ready same none at legal, λ buffer. stored_answered decides result buffer buffer failure (λ service p. let g = gives service p in (g.answers, g.unwritten buffer)))
+  stored same none at legal decides result failure may gives =
+      (stored_ready same none at legal, λ buffer. stored_answered decides result buffer buffer failure may (λ service p. let g = gives service p in (g.answers, g.unwritten buffer)))
 
 -- what was decided of the store before the entry is known of the service's
 pub decided_known : {D A C : Type 0} (w : World D A C) (P : model.Store → Type 0) (before : List Entry) (e : Entry) → DecidesBefore w P before e → KnowsTold w (λ service. P service.store) before e
@@ -175,9 +183,10 @@ module _ {D A C : Type 0} (w : World D A C) (old new : Caller D A C) (r : IsRead
   }) at legal own
 
   pub created_answered : {P : model.Store → Type 0} → DecidesAt w P c.before c.entry → (result : Result Output Status) → TellsFailure w result mark →
+      ((service : Service) → P service.store → MayBeMarked service old.number (OnStore call) mark) →
       ((service : Service) → P service.store → Gives result (serve service old.number (OnStore call) mark).reply) → (buffer : List ℕ) → IsAnswered w old.pass.me.0 new.pass.me.0 request rank result buffer buffer
-  created_answered decides result failure gives buffer =
-      decided_answered w old new r 2 request call asks mark rank c.before c.entry c.called decides result buffer buffer failure (λ service p. let g = gives service p in (g.answers, g.unwritten buffer))
+  created_answered decides result failure may gives buffer =
+      decided_answered w old new r 2 request call asks mark rank c.before c.entry c.called decides result buffer buffer failure may (λ service p. let g = gives service p in (g.answers, g.unwritten buffer))
 
   -- where no random word is drawn
   pub created_ready : SameButPass old new → DrawsNone call → IsAt w new.pass → Legal w (entries_of new.pass.me.0.seen) → IsReady w 0 new

@@ -3,7 +3,7 @@ use Rattle.std.specs.Prelude.{Option, Some, None, Result, Ok, Err}
 use Rattle.psa_status.specs.declared.Status.{Status}
 use Rattle.psa_status.specs.declared.Status.TheVariants.{StorageFailure, HardwareFailure, DataCorrupt}
 use Rattle.service_calls.specs.declared.output.Output.{Output}
-use Rattle.store_model.specs.Prelude.{FaultMark, Plain, Storage, Hardware, Corrupt}
+use Rattle.store_model.specs.Prelude.{FaultMark, done, marked_reply}
 
 -- the failure that a status tells of: the disk's, a driver's, or bytes that were no record
 abbrev pub failure_told : Status → Option Status
@@ -17,9 +17,6 @@ abbrev pub failure_in : Result Output Status → Option Status
 failure_in (Ok output) = None
 failure_in (Err status) = failure_told status
 
--- that of which a mark is
+-- that of which a mark is: a call with the mark tells of it
 abbrev pub failure_marked : FaultMark → Option Status
-failure_marked Plain = None
-failure_marked (Storage access) = Some StorageFailure
-failure_marked Hardware = Some HardwareFailure
-failure_marked Corrupt = Some DataCorrupt
+failure_marked mark = failure_told (marked_reply mark done).status

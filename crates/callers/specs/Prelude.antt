@@ -1,6 +1,6 @@
 -- The words of this crate that its code and its proofs cite, a line for each file that says them.
 pub use Rattle.callers.specs.Budget.{begins_operation, is_counted}
-pub use Rattle.callers.specs.Called.{HasService, IsAnswered, IsCalled, IsReplied, KnowsBefore, Legal, TellsFailure, TellsReply}
+pub use Rattle.callers.specs.Called.{GivesSome, HasService, IsAnswered, IsCalled, IsReplied, KnowsBefore, KnowsReply, Legal, MayCompute, MayReply, TellsFailure}
 pub use Rattle.callers.specs.Failures.{failure_in, failure_marked, failure_told}
 pub use Rattle.callers.specs.HandleCalls.{FailsDerivation, IsAsked, MayTakeKey, stepped_at, with_secret, without_bytes, rekeyed}
 pub use Rattle.callers.specs.Handles.{AreIdle, AreOperations, ArePairs, HoldsLease, IsChanged, busy, leases_of, operation_at, pairs_of, with_operation_at}

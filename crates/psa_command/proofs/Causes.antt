@@ -1,11 +1,11 @@
 -- Why a command ends as it does.
-use Rattle.std.proofs.Common.{Err, IfSome, IsOk, List, None, Ok, Option, Some, [], ap, arith, inl, inr, is_some, refl, subst, sym, true, ℕ, ◌∷◌, ◌≡◌, ◌⊎◌}
-use Rattle.psa_command.proofs.Common.{AreLinesOf, Command, DamagedCell, DiskFault, Done, EndsBy, Exit, HasStore, IsDonePlainly, IsOfImage, IsReadable, IsRun, IsUnrun, IsWritten, Memory, NotAStore, ReadFault, ReplyLine, Script, ScriptFault, ScriptLine, TellsThat, Usage, WriteFault, exit_of, exit_unanswered, leb_tells, script_of, text_by, options_of}
+use Rattle.std.proofs.Common.{Err, IfSome, IsOk, IsSomeAnd, List, None, Ok, Option, Some, [], ap, arith, inl, inr, is_some, refl, subst, sym, true, ℕ, ◌∷◌, ◌≡◌, ◌⊎◌}
+use Rattle.psa_command.proofs.Common.{AreLinesOf, Command, DamagedCell, DiskFault, Done, EndsBy, Exit, HasStore, IsDonePlainly, IsOfImage, IsReadable, IsRun, IsUnrun, IsWritten, Memory, NotAStore, ReadFault, ReplyLine, Script, ScriptFault, ScriptLine, Usage, WriteFault, exit_of, exit_unanswered, leb_tells, script_of, text_by, options_of}
 use Rattle.admission.specs.Apply.{picked}
 use Rattle.psa_status.specs.Causes.{Rose}
 use Rattle.policy_rules.specs.declared.narrowing.Label.{Label}
 use Rattle.disk_face.specs.Disk.{NoNewImage}
-use Rattle.key_cells.specs.Prelude.{IsFirstDamaged, IsNoStore, IsFoundIn}
+use Rattle.key_cells.specs.Prelude.{IsFirstDamaged, IsNoStore, IsFoundIn, IsOpeningRefused}
 use Rattle.key_cells.specs.declared.reading.OpenFault.{OpenFault}
 use Rattle.key_cells.specs.declared.reading.OpenFault.TheVariants as opening
 use Rattle.command_words.specs.declared.command.Command.TheVariants.{Run, Generate}
@@ -13,7 +13,7 @@ use Rattle.command_words.specs.declared.command.RunOptions.{RunOptions}
 use Rattle.session_host.specs.declared.lines.Unanswered.{Unanswered}
 use Rattle.session_host.specs.declared.lines.Unanswered.TheVariants.{NotOpened}
 use Rattle.session_host.specs.declared.lines.Unanswered.TheVariants as unanswered
-use Rattle.session_host.specs.Runs.{AreAnswered, IsUnanswered, IsUnopened}
+use Rattle.session_host.specs.Runs.{AreAnswered, IsUnanswered}
 use Rattle.disk_face.specs.declared.Disk as Disk
 use Rattle.driver_dispatch.specs.declared.devices.Devices as Devices
 use Rattle.admission.specs.declared.rules.Admission as Admission
@@ -62,10 +62,10 @@ module _ {D A C : Type 0} (disks : Disk.Ghosts D) (elements : Devices.Ghosts A) 
   HasCause DiskFault = Rose (disks.faults disk) (disks.faults disk_after)
   HasCause _ = Unit {0}
 
-  of_opening : (fault : OpenFault) → IsUnopened disks elements admits disk devices fault disk_after devices_after → HasCause (exit_of fault)
-  of_opening opening.NotAStore u = elim u.refused [ inl r ↦ (r.caused, ((r.calm tt).same, (r.calm tt).crash)) | inr m ↦ absurd (let e = m.0 in cc) ]
-  of_opening (opening.DamagedCell cell) u = elim u.refused [ inl r ↦ (r.caused, ((r.calm tt).same, (r.calm tt).crash)) | inr m ↦ absurd (let e = m.0 in cc) ]
-  of_opening opening.Disk u = elim u.refused [ inl r ↦ r.rose tt | inr m ↦ absurd (let e = m.0 in cc) ]
+  of_opening : (fault : OpenFault) → IsOpeningRefused disks disk disk_after fault × (devices_after ≡ devices) → HasCause (exit_of fault)
+  of_opening opening.NotAStore u = elim u.0 [ inl r ↦ (r.caused, ((r.calm tt).same, (r.calm tt).crash)) | inr m ↦ absurd (let e = m.0 in cc) ]
+  of_opening (opening.DamagedCell cell) u = elim u.0 [ inl r ↦ (r.caused, ((r.calm tt).same, (r.calm tt).crash)) | inr m ↦ absurd (let e = m.0 in cc) ]
+  of_opening opening.Disk u = elim u.0 [ inl r ↦ r.rose tt | inr m ↦ absurd (let e = m.0 in cc) ]
   of_opening opening.Memory u = tt
 
   of_lines : (lines : List ScriptLine) (named : List Label) (seed : List ℕ) (why : Unanswered) →
@@ -112,10 +112,10 @@ module _ {D A C : Type 0} (disks : Disk.Ghosts D) (elements : Devices.Ghosts A) 
     pub read : exit ≡ ReadFault → read_fault
     pub write : exit ≡ WriteFault → write_fault
 
-  store_of : (replies : List ReplyLine) → Answers replies → (P : List ℕ → Type 0) → ((image : List ℕ) → HasStore (Some image) → P image → ⊥) → TellsThat P (disks.contents disk) → ⊥
+  store_of : (replies : List ReplyLine) → Answers replies → (P : List ℕ → Type 0) → ((image : List ℕ) → HasStore (Some image) → P image → ⊥) → IsSomeAnd (disks.contents disk) P → ⊥
   store_of replies r P refuses = tells (disks.contents disk) (was_found replies r)
     where
-      tells : (t : Option (List ℕ)) → IfSome t (λ image. HasStore (Some image)) → TellsThat P t → ⊥
+      tells : (t : Option (List ℕ)) → IfSome t (λ image. HasStore (Some image)) → IsSomeAnd t P → ⊥
       tells None has refused = refused
       tells (Some image) has refused = refuses image has refused
 
@@ -140,7 +140,7 @@ module _ {D A C : Type 0} (disks : Disk.Ghosts D) (elements : Devices.Ghosts A) 
 
   -- an image that is refused
   refusal : (exit wanted : Exit) (P : List ℕ → Type 0) → ((image : List ℕ) → HasStore (Some image) → P image → ⊥) → (old new : Option (List ℕ)) (read write : Type 0) → IsKnown exit old new read write → IsReadable command left → (read → ⊥) →
-      (Rose (disks.faults disk) (disks.faults disk_after) → ⊥) → TellsThat P (disks.contents disk) →
+      (Rose (disks.faults disk) (disks.faults disk_after) → ⊥) → IsSomeAnd (disks.contents disk) P →
       (exit ≡ NotAStore → NotAStore ≡ wanted) → ((cell : ℕ) → exit ≡ DamagedCell cell → DamagedCell cell ≡ wanted) → (exit ≡ wanted) ⊎ (exit ≡ Memory)
   refusal Done wanted P refuses old new read write known reads r d tells as_none as_damaged = absurd (store_of known.ends.0 known.ends.1 P refuses tells)
   refusal Usage wanted P refuses old new read write known reads r d tells as_none as_damaged = absurd known.ends
@@ -153,22 +153,22 @@ module _ {D A C : Type 0} (disks : Disk.Ghosts D) (elements : Devices.Ghosts A) 
   refusal Memory wanted P refuses old new read write known reads r d tells as_none as_damaged = inr refl
 
   pub no_store : (exit : Exit) (old new : Option (List ℕ)) (read write : Type 0) → IsKnown exit old new read write → IsReadable command left → (read → ⊥) → (Rose (disks.faults disk) (disks.faults disk_after) → ⊥) →
-      TellsThat IsNoStore (disks.contents disk) → (exit ≡ NotAStore) ⊎ (exit ≡ Memory)
+      IsSomeAnd (disks.contents disk) IsNoStore → (exit ≡ NotAStore) ⊎ (exit ≡ Memory)
   no_store exit old new read write known reads r d tells =
       refusal exit NotAStore IsNoStore is_store old new read write known reads r d tells (λ e. refl) (λ cell e. absurd (both cell (disks.contents disk) tells (subst HasCause e (cause exit old new known.ends)).0))
     where
-      both : (cell : ℕ) (t : Option (List ℕ)) → TellsThat IsNoStore t → IfSome t (λ image. IsFirstDamaged image cell) → ⊥
+      both : (cell : ℕ) (t : Option (List ℕ)) → IsSomeAnd t IsNoStore → IfSome t (λ image. IsFirstDamaged image cell) → ⊥
       both cell None none damaged = none
       both cell (Some image) none damaged = none.other damaged.store
 
   pub bad_cell : (exit : Exit) (old new : Option (List ℕ)) (read write : Type 0) → IsKnown exit old new read write → IsReadable command left → (read → ⊥) → (Rose (disks.faults disk) (disks.faults disk_after) → ⊥) →
-      (cell : ℕ) → TellsThat (λ image. IsFirstDamaged image cell) (disks.contents disk) → (exit ≡ DamagedCell cell) ⊎ (exit ≡ Memory)
+      (cell : ℕ) → IsSomeAnd (disks.contents disk) (λ image. IsFirstDamaged image cell) → (exit ≡ DamagedCell cell) ⊎ (exit ≡ Memory)
   bad_cell exit old new read write known reads r d cell tells =
       refusal exit (DamagedCell cell) (λ image. IsFirstDamaged image cell) (λ image. is_sound image cell) old new read write known reads r d tells
       (λ e. absurd (both (disks.contents disk) tells (subst HasCause e (cause exit old new known.ends)).0))
       (λ other e. ap (λ (c : ℕ). DamagedCell c) (first (disks.contents disk) other tells (subst HasCause e (cause exit old new known.ends)).0))
     where
-      both : (t : Option (List ℕ)) → TellsThat (λ image. IsFirstDamaged image cell) t → IfSome t IsNoStore → ⊥
+      both : (t : Option (List ℕ)) → IsSomeAnd t (λ image. IsFirstDamaged image cell) → IfSome t IsNoStore → ⊥
       both None damaged none = damaged
       both (Some image) damaged none = none.other damaged.store
 
@@ -181,7 +181,7 @@ module _ {D A C : Type 0} (disks : Disk.Ghosts D) (elements : Devices.Ghosts A) 
         | inr less ↦ absurd (here.before b less.1 there.here)
       ]
 
-      first : (t : Option (List ℕ)) (other : ℕ) → TellsThat (λ image. IsFirstDamaged image cell) t → IfSome t (λ image. IsFirstDamaged image other) → other ≡ cell
+      first : (t : Option (List ℕ)) (other : ℕ) → IsSomeAnd t (λ image. IsFirstDamaged image cell) → IfSome t (λ image. IsFirstDamaged image other) → other ≡ cell
       first None other damaged more = absurd damaged
       first (Some image) other damaged more = lowest image other cell more damaged
 

@@ -1,6 +1,6 @@
 -- What several proofs of this crate cite of its words, and of other crates'.
 pub use Rattle.command_words.specs.declared.command.Command.{Command}
-pub use Rattle.psa_command.specs.Commands.{AreLinesOf, EndsBy, HasStore, IsDonePlainly, IsReadable, IsRun, IsUnrun, TellsThat, text_by, options_of}
+pub use Rattle.psa_command.specs.Commands.{AreLinesOf, EndsBy, HasStore, IsDonePlainly, IsReadable, IsRun, IsUnrun, text_by, options_of}
 pub use Rattle.psa_command.specs.Ends.{IsBeforeOpening, IsOfImage, IsOfReading, IsWritten, exit_of, exit_unanswered}
 pub use Rattle.psa_command.specs.declared.exit.Exit.{Exit}
 pub use Rattle.psa_command.specs.declared.exit.Exit.TheVariants.{DamagedCell, DiskFault, Done, Memory, NotAStore, ReadFault, Script, Usage, WriteFault}

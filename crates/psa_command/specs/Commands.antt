@@ -1,5 +1,5 @@
 -- What a command runs, and what is known of its end.
-use Rattle.std.specs.Prelude.{ℕ, ◌≡◌, ◌⊎◌, List, [], flat_map, replicate, length, IfSome, IsOk, Ok, Option, Some, None}
+use Rattle.std.specs.Prelude.{ℕ, ◌≡◌, ◌⊎◌, List, [], flat_map, replicate, length, IfSome, IsOk, IsSomeAnd, Ok, Option}
 use Rattle.std.specs.Io.KnownBytes.{Appends}
 use Rattle.psa_status.specs.Causes.{Rose}
 use Rattle.policy_rules.specs.declared.narrowing.Label.{Label}
@@ -16,7 +16,7 @@ use Rattle.session_host.specs.declared.lines.Unanswered.{Unanswered}
 use Rattle.session_host.specs.Bounds.{ArePlain}
 use Rattle.session_host.specs.Runs.{AreAnswered, IsUnanswered}
 use Rattle.psa_command.specs.declared.exit.Exit.{Exit}
-use Rattle.psa_command.specs.declared.exit.Exit.TheVariants.{Done, Usage, Script, ReadFault, WriteFault, NotAStore, DamagedCell, DiskFault, Memory}
+use Rattle.psa_command.specs.declared.exit.Exit.TheVariants.{Done, Usage, Script, ReadFault, WriteFault, Memory}
 use Rattle.psa_command.specs.Ends.{TakesPart, exit_unanswered}
 use Rattle.disk_face.specs.declared.Disk as Disk
 use Rattle.driver_dispatch.specs.declared.devices.Devices as Devices
@@ -58,33 +58,26 @@ module _ {D A C : Type 0} (disks : Disk.Ghosts D) (elements : Devices.Ghosts A) 
 
   -- How a command ended, and what of its output was taken. Done: all that is written of the replies; a fault of the sink: a part
   -- of it. Before the store was opened, disk and devices come back as they were. Memory may run out before that, later, or as
-  -- the generator's summary is made.
+  -- the generator's summary is made. Any other end is that of a store that wasn't opened.
   abbrev pub EndsBy : Exit → (old new : Option (List ℕ)) → Type 0
   EndsBy Done old new = (replies : List ReplyLine) × IsRun replies × Appends old new (text_by command replies)
   EndsBy WriteFault old new = (replies : List ReplyLine) × IsRun replies × TakesPart (text_by command replies) old new
   EndsBy Memory old new = IsGivenBack ⊎ IsUnrun Memory ⊎ ((replies : List ReplyLine) × IsRun replies)
-  EndsBy NotAStore old new = IsUnrun NotAStore
-  EndsBy (DamagedCell cell) old new = IsUnrun (DamagedCell cell)
-  EndsBy DiskFault old new = IsUnrun DiskFault
   EndsBy (Script fault) old new = IsGivenBack
   EndsBy ReadFault old new = IsGivenBack
   EndsBy Usage old new = ⊥
+  EndsBy exit old new = IsUnrun exit
 
   -- It was done. Where the devices' count of faults didn't rise, no call met a failure.
   abbrev pub IsDonePlainly : Exit → (old new : Option (List ℕ)) → Type 0
   IsDonePlainly exit old new = (exit ≡ Done)
       × ((Rose (elements.faults devices) (elements.faults devices_after) → ⊥) → (replies : List ReplyLine) × (run : IsRun replies) × ArePlain run.answered.run.history × Appends old new (text_by command replies))
 
--- bytes are told, and P holds of them
-abbrev pub TellsThat : (List ℕ → Type 0) → Option (List ℕ) → Type 0
-TellsThat P None = ⊥
-TellsThat P (Some image) = P image
-
 -- a command's lines can be read: those of a script, where the source tells it
 abbrev pub IsReadable : Command → (left : Option (List ℕ)) → Type 0
-IsReadable (Run options) left = TellsThat (λ text. IsOk (script_of text)) left
+IsReadable (Run options) left = IsSomeAnd left (λ text. IsOk (script_of text))
 IsReadable (Generate count) left = Unit {0}
 
 -- a disk that tells its bytes has a store, or is new
 abbrev pub HasStore : Option (List ℕ) → Type 0
-HasStore told = TellsThat (λ image. (length image ≡ 0) ⊎ Opens image) told
+HasStore told = IsSomeAnd told (λ image. (length image ≡ 0) ⊎ Opens image)

@@ -1,5 +1,5 @@
 //! The top call.
-ghost use Rattle.std.specs.Prelude.{◌≡◌, ◌≤◌, ◌+◌, ◌↔◌, ◌⊎◌, List, [], ℕ, IfSome, None, Some, Err, Option, map, length};
+ghost use Rattle.std.specs.Prelude.{◌≡◌, ◌≤◌, ◌+◌, ◌↔◌, ◌⊎◌, List, [], ℕ, IfSome, IsSomeAnd, None, Some, Err, Option, map, length};
 ghost use Rattle.std.specs.Io.KnownBytes.{IsAtEnd, Consumes};
 ghost use Rattle.psa_status.specs.Causes.{Rose};
 ghost use Rattle.policy_rules.specs.declared.narrowing.Label.{Label};
@@ -15,7 +15,7 @@ ghost use Rattle.command_words.specs.Words.{command_of};
 ghost use Rattle.command_words.specs.declared.command.Command as command;
 ghost use Rattle.command_words.specs.declared.command.Command.TheVariants as commands;
 ghost use Rattle.command_words.specs.declared.command.RunOptions as options;
-ghost use Rattle.psa_command.specs.Commands.{EndsBy, HasStore, IsDonePlainly, IsReadable, TellsThat};
+ghost use Rattle.psa_command.specs.Commands.{EndsBy, HasStore, IsDonePlainly, IsReadable};
 ghost use Rattle.psa_command.specs.Ends.{IsBeforeOpening, IsOfImage, IsQuiet, IsReadToEnd};
 
 use crate::exit::{Ended, Exit};
@@ -187,9 +187,9 @@ pub fn run_command<
     ensures complete { (c : command.Command) → command_of (L.labels rules) (map (λ w. w.now) words.now) ≡ Some c → IsReadable c (S.left source.old) → (Rose (S.faults source.old) (S.faults source.new) → ⊥) → (Rose (K.faults sink.old) (K.faults sink.new) → ⊥) → (Rose (D.faults disk) (D.faults result.disk) → ⊥) →
         HasStore (D.contents disk) → IsDonePlainly D.Disk A.Devices L.Picked.Admission (L.labels rules) (S.left source.old) disk devices c result.disk result.devices result.exit (K.taken sink.old) (K.taken sink.new) ⊎ (result.exit ≡ Exit.Memory) }
     ensures no_store { (c : command.Command) → command_of (L.labels rules) (map (λ w. w.now) words.now) ≡ Some c → IsReadable c (S.left source.old) → (Rose (S.faults source.old) (S.faults source.new) → ⊥) → (Rose (D.faults disk) (D.faults result.disk) → ⊥) →
-        TellsThat IsNoStore (D.contents disk) → (result.exit ≡ Exit.NotAStore) ⊎ (result.exit ≡ Exit.Memory) }
+        IsSomeAnd (D.contents disk) IsNoStore → (result.exit ≡ Exit.NotAStore) ⊎ (result.exit ≡ Exit.Memory) }
     ensures bad_cell { (c : command.Command) → command_of (L.labels rules) (map (λ w. w.now) words.now) ≡ Some c → IsReadable c (S.left source.old) → (Rose (S.faults source.old) (S.faults source.new) → ⊥) → (Rose (D.faults disk) (D.faults result.disk) → ⊥) →
-        (cell : ℕ) → TellsThat (λ image. IsFirstDamaged image cell) (D.contents disk) → (result.exit ≡ Exit.DamagedCell cell) ⊎ (result.exit ≡ Exit.Memory) }
+        (cell : ℕ) → IsSomeAnd (D.contents disk) (λ image. IsFirstDamaged image cell) → (result.exit ≡ Exit.DamagedCell cell) ⊎ (result.exit ≡ Exit.Memory) }
     ensures refused { (options : options.RunOptions) → command_of (L.labels rules) (map (λ w. w.now) words.now) ≡ Some (commands.Run options) → (Rose (S.faults source.old) (S.faults source.new) → ⊥) →
         IfSome (S.left source.old) (λ text. (f : ScriptFault) → script_of text ≡ Err f → (result.exit ≡ Exit.Script f) ⊎ (result.exit ≡ Exit.Memory)) }
 {

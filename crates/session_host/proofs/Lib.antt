@@ -1,6 +1,7 @@
 mod Common
 mod Gathered
 mod Ran
+mod Ranked
 mod Replayed
 mod Sent
 mod Whole

@@ -1,5 +1,7 @@
 -- The turns of the replay, and those that are told.
-use Rattle.session_host.proofs.Common.{All, All-cons, All-head, All-nil, All-tail, AreCalls, ArePrintedAlike, AreTurnsIn, Bool, Entry, IsTurnIn, List, ScriptLine, Service, StartsWith, ToldBy, Turn, World, [], ap, append-nil, append_assoc, arith, begins_through, cond, eqb, false, id_given, inl, is_some, known_told, length, length-append, map, numbered, of_calls, outcome_of, ranked_call, refl, replay, subst, sym, told_front, true, turns_from, turns_of, two_beginnings, ℕ, ◌++◌, ◌+◌, ◌∙◌, ◌∷◌, ◌≡◌, ◌≤◌, IsStartOf}
+use Rattle.session_host.proofs.Common.{All, All-cons, All-head, All-nil, All-tail, AreCalls, ArePrintedAlike, AreTurnsIn, Bool, Entry, IsTurnIn, List, ScriptLine, Service, StartsWith, ToldBy, Turn, World, [], ap, append-nil, append_assoc, arith, begins_through, cond, eqb, false, id_given, is_some, known_told, length, length-append, map, numbered, of_calls, outcome_of, ranked_call, refl, replay, subst, sym, told_front, true, turns_from, turns_of, two_beginnings, ℕ, ◌++◌, ◌+◌, ◌∙◌, ◌∷◌, ◌≡◌, ◌≤◌, IsStartOf}
+use Rattle.std.proofs.lemmas.Bool.{false≢true}
+use Rattle.std.proofs.Common.{⊎_elim}
 use Rattle.store_core.proofs.Histories.{replay_push}
 
 -- a turn of the replay: its reply is that to its entry there
@@ -52,9 +54,11 @@ module _ {D A C : Type 0} (w : World D A C) (start : Service) (is : IsStartOf w 
       let same : mine.before ≡ theirs.before = same_length theirs.before mine.before
       (two_beginnings history theirs.before mine.before (front theirs.before u.entry theirs.placed) (front mine.before t.entry mine.placed) (omega (arith, long))) (omega (arith, long)) in
       let first = told_front (w.disk.contents w.opened.file.value.cells.disk) start history (mine.before ++ t.entry ∷ []) mine.placed told in
-      let known = known_told mine.reply.replied start is first (inl tells) in
+      let known = known_told mine.reply.replied start is first in
+      let own : ArePrintedAlike t.reply (outcome_of (replay start mine.before) t.entry).reply =
+      ⊎_elim (λ (same : known.0 ≡ _). subst (ArePrintedAlike t.reply) same known.2) (λ silent. absurd (false≢true (sym silent.0 ∙ tells))) known.1 in
       let reply : (outcome_of (replay start mine.before) t.entry).reply ≡ u.reply = (λ i. (outcome_of (replay start (same i)) (entry i)).reply) ∙ sym theirs.reply in
-      subst (ArePrintedAlike t.reply) reply known
+      subst (ArePrintedAlike t.reply) reply own
 
   -- so are turns that stand in the same places
   printed_alike : (n : ℕ) (ts us : List Turn) → map ranked_call ts ≡ map ranked_call us → All (IsTurnIn w history) ts → All (IsReplayed start history) us → numbered n ts ≡ numbered n us

@@ -1,5 +1,6 @@
 -- What callers and sessions know, as one more line is run.
-use Rattle.session_host.proofs.Common.{All-nil, All-push, All-weaker, ArePrintedAlike, AreTurnsIn, Caller, Entry, GoesFurther, HasAnswered, HasMade, IsAnswered, IsMade, IsReady, IsReplied, IsTurnIn, List, NotesLine, Opened, Output, Replies, Reply, ReplyLine, Request, Result, ScriptLine, Session, StartsWith, Status, TellsReply, Turn, View, World, [], ap, ap₂, arith, begins_through, caller_of, calls_by, entries_of, eq-eqb, failure_marked, id_given, known_more, length, length-append, lines_of, map, map-append, ne_eqb, next_line, numbered, of_calls, outcome_of, output_bytes, printed, ranked_call, refl, reply_of, request_of, subst, sym, ℕ, ◌++◌, ◌+◌, ◌==◌, ◌∙◌, ◌∷◌, ◌≡◌, ◌≢◌, ◌≤◌}
+use Rattle.session_host.proofs.Common.{All-nil, All-push, All-weaker, ArePrintedAlike, AreTurnsIn, Caller, Entry, GoesFurther, HasAnswered, HasMade, IsAnswered, IsMade, IsReady, IsReplied, IsTurnIn, List, NotesLine, Opened, Output, Replies, Reply, ReplyLine, Request, Result, ScriptLine, Session, StartsWith, Status, Turn, View, World, [], ap, ap₂, arith, begins_through, caller_of, calls_by, entries_of, eq-eqb, failure_marked, id_given, known_more, length, length-append, lines_of, map, map-append, ne_eqb, next_line, numbered, of_calls, output_bytes, printed, ranked_call, refl, reply_of, request_of, subst, sym, ℕ, ◌++◌, ◌+◌, ◌==◌, ◌∙◌, ◌∷◌, ◌≡◌, ◌≢◌, ◌≤◌}
+use Rattle.callers.specs.Called.{MayReply}
 use Rattle.session_host.proofs.{History.calls_more, History.kept_own, History.left_out, History.numbered_length, History.numbered_more, Noted.alike, Noted.tells, Places.one_more_of, Places.same_later}
 
 begins_since : (old before new : List Entry) (e : Entry) → StartsWith before old → StartsWith new (before ++ e ∷ []) → StartsWith new old
@@ -22,11 +23,9 @@ is_made w v u call asked rank result before out a same = subst (λ r. IsMade w v
   entry = a.entry;
   called = a.called;
   reply_is = record {
-    replied = known_more {w = w} {P = λ service. TellsReply w service v.number call → IsReplied result before out (outcome_of service a.entry).reply}
-        {Q = λ service. TellsReply w service a.entry.caller a.entry.call → ArePrintedAlike (reply_of result out) (outcome_of service a.entry).reply}
-        (λ service answered told.
-        let f = answered (subst (λ n. TellsReply w service n call) a.called.by (subst (λ r. TellsReply w service a.entry.caller r) a.called.call_is told)) in
-        alike result out (outcome_of service a.entry).reply (record { answers = f.0; before = before; after = f.1 })) a.replied;
+    replied = known_more {w = w} {P = λ service. (reply : Reply) × MayReply w service a.entry reply × IsReplied result before out reply}
+        {Q = λ service. (reply : Reply) × MayReply w service a.entry reply × ArePrintedAlike (reply_of result out) reply}
+        (λ service r. (r.0, r.1, alike result out r.0 (record { answers = r.2.0; before = before; after = r.2.1 }))) a.replied;
     failure = λ start is. tells result out ∙ (a.failure start is ∙ sym (ap failure_marked a.called.mark_is));
   };
 })

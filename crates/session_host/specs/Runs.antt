@@ -7,7 +7,7 @@ use Rattle.key_cells.specs.declared.reading.OpenFault.{OpenFault}
 use Rattle.store_model.specs.Prelude.{Service, Entry, IsSoundStore}
 use Rattle.store_core.specs.declared.store.Opened.{Opened}
 use Rattle.store_core.specs.Prelude.{FindsKeysOf, opening_of}
-use Rattle.locked_store.specs.Prelude.{IsNotOpened, IsStartOf, World, world_of}
+use Rattle.locked_store.specs.Prelude.{IsStartOf, World, world_of}
 use Rattle.caller_service.specs.Closing.{IsLeft}
 use Rattle.script_lang.specs.declared.script.ScriptLine.{ScriptLine}
 use Rattle.script_lang.specs.Prelude.{AreAllKept, ReplyLine, Turn, lines_of, replies_to}
@@ -21,7 +21,7 @@ use Rattle.session_host.specs.declared.lines.Unanswered.TheVariants.{NotOpened, 
 use Rattle.disk_face.specs.declared.Disk as Disk
 use Rattle.driver_dispatch.specs.declared.devices.Devices as Devices
 use Rattle.admission.specs.declared.rules.Admission as Admission
-use Rattle.key_cells.specs.Prelude.{IsOpened}
+use Rattle.key_cells.specs.Prelude.{IsOpened, IsOpeningRefused}
 
 -- the calls of a history are made in the order of the lines
 abbrev pub IsInLineOrder : List ScriptLine → List Entry → Type 0
@@ -77,12 +77,8 @@ module _ {D A C : Type 0} (disks : Disk.Ghosts D) (elements : Devices.Ghosts A) 
     pub run : IsRun disk devices named seed disk_after devices_after
     pub calls : (session : ℕ) → (n : ℕ) × (turns : List Turn) × AreTurnsIn (world_of disks elements admits run.lock run.opened) run.history session (lines_of session (take n lines)) turns
 
-  -- The store wasn't opened, for this fault, and the devices come back as they were.
-  pub record IsUnopened (disk : D) (devices : A) (fault : OpenFault) (disk_after : D) (devices_after : A) : Type 0 where
-    pub refused : IsNotOpened disks disk disk_after fault
-    pub devices_are : devices_after ≡ devices
-
-  -- The lines have no replies for this reason: their store wasn't opened, or memory ran out after that.
+  -- The lines have no replies for this reason: their store wasn't opened, and the devices come back as they were, or memory ran
+  -- out after that.
   abbrev pub IsUnanswered : (disk : D) (devices : A) (named : List Label) (seed : List ℕ) (lines : List ScriptLine) → Unanswered → (disk_after : D) (devices_after : A) → Type 0
-  IsUnanswered disk devices named seed lines (NotOpened fault) disk_after devices_after = IsUnopened disk devices fault disk_after devices_after
+  IsUnanswered disk devices named seed lines (NotOpened fault) disk_after devices_after = IsOpeningRefused disks disk disk_after fault × (devices_after ≡ devices)
   IsUnanswered disk devices named seed lines Memory disk_after devices_after = IsBroken disk devices named seed lines disk_after devices_after

@@ -2,9 +2,9 @@
 use Rattle.std.specs.Prelude.{ℕ, ◌≡◌, ◌⊎◌, ◌≤◌, ◌*◌, List, [], ◌∷◌, ◌++◌, All, length, map}
 use Rattle.turn_history.specs.declared.pass.View.{View}
 use Rattle.turn_history.specs.Prelude.{entries_of, StartsWith}
-use Rattle.store_model.specs.Prelude.{Reply, FaultMark, Service, Request, Entry, outcome_of}
+use Rattle.store_model.specs.Prelude.{Reply, FaultMark, Request, Entry}
 use Rattle.store_core.specs.declared.store.Opened.{Opened}
-use Rattle.callers.specs.Called.{IsCalled, KnowsBefore, TellsReply}
+use Rattle.callers.specs.Called.{IsCalled, KnowsReply}
 use Rattle.callers.specs.Failures.{failure_marked, failure_told}
 use Rattle.callers.specs.Ready.{IsReady}
 use Rattle.locked_store.specs.Prelude.{World, IsStartOf}
@@ -13,7 +13,7 @@ use Rattle.script_lang.specs.declared.script.ScriptLine.{ScriptLine}
 use Rattle.script_lang.specs.Prelude.{AreCalls, AreKept, ReplyLine, lines_of, numbered, Turn, id_given}
 use Rattle.script_lang.specs.declared.replies.Replies.{Replies}
 use Rattle.session_host.specs.declared.session.Session.{Session}
-use Rattle.session_host.specs.Places.{of_calls, ranked_call}
+use Rattle.session_host.specs.Places.{of_calls}
 use Rattle.session_host.specs.Replying.{ArePrintedAlike}
 
 -- the calls of these lines are among a history's, in this order
@@ -31,11 +31,10 @@ pub record GoesFurther {D A C : Type 0} (session : ℕ) (old new : Caller D A C)
   pub seen : StartsWith (entries_of new.pass.me.0.seen) (before ++ entry ∷ [])
 
 module _ {D A C : Type 0} (w : World D A C) where
-  -- The reply to an entry after a history. It is printed as that of some one-thread service to the call: of the replay's, as far as
-  -- the history with the entry is told, and where what the secure element computes for it is told. Whatever is told, it tells of a
-  -- device that failed exactly where the entry's mark does.
+  -- The reply to an entry after a history. It is printed as one of some one-thread service to the call: of the replay's, as far as
+  -- the history with the entry is told. Whatever is told, it tells of a device that failed exactly where the entry's mark does.
   pub record IsReplyTo (before : List Entry) (e : Entry) (reply : Reply) : Type 0 where
-    pub replied : KnowsBefore w (λ service. TellsReply w service e.caller e.call → ArePrintedAlike reply (outcome_of service e).reply) before e
+    pub replied : KnowsReply w (ArePrintedAlike reply) before e
     pub failure : (start : Service) → IsStartOf w start → failure_told reply.status ≡ failure_marked e.mark
 
   -- A turn is one of a history: its entry stands there at its rank, with its reply.
@@ -49,7 +48,7 @@ module _ {D A C : Type 0} (w : World D A C) where
   -- identifier that the session's own reply before gave.
   pub record AreTurnsIn (h : List Entry) (session : ℕ) (lines : List ScriptLine) (turns : List Turn) : Type 0 where
     pub calls : AreCalls [] lines turns
-    pub placed : map ranked_call turns ≡ of_calls (λ rank e. (rank, e)) session 0 h
+    pub placed : map (λ t. (t.rank, t.entry)) turns ≡ of_calls (λ rank e. (rank, e)) session 0 h
     pub each : All (IsTurnIn h) turns
 
   -- A caller made a call. Its entry stands at the rank in what the caller has then seen, and this is its reply.

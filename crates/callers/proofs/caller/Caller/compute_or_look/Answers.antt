@@ -16,7 +16,7 @@ returns-in-Computed g c =
       ready = computed_ready w old new r asked element key shown given c.in-Computed.computed request asks (c.requires.model key room) rank ranked.before ranked.after.entry quiet ranked.after.entered ranked.after.decided c.requires.draws refl refl refl c.draw_vector.ensures
           (put_back old.spares c.pop.new.self new.spares (popped old.spares c.pop.new.self c.in-Some.is c.pop.ensures.items c.pop.ensures.capacity r.clear) looked.0 c.push_reserved.ensures.items c.push_reserved.ensures.capacity) c.look_or_compute-rank.ensures.at c.look_or_compute-rank.ensures.legal;
       answered = computed_answered w old new r asked element key shown given c.in-Computed.computed request asks (c.requires.model key room) rank ranked.before ranked.after.entry quiet ranked.after.entered ranked.after.decided
-          c.requires.vector c.computed_output.result (λ reply. c.computed_output.ensures.reply element reply c.requires.element) c.computed_output.ensures.failure;
+          c.requires.vector c.look_or_compute-rank.auto.out c.computed_output.result (λ reply. c.computed_output.ensures.reply element reply c.requires.element) c.computed_output.ensures.failure;
       spent = refl;
       handles = refl;
     }

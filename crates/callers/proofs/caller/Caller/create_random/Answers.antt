@@ -1,6 +1,6 @@
 use Rattle.callers.proofs.Common.{DecidesBefore, Err, Generate, IsCreated, IsMade, IsUnmade, None, Ok, OnStore, Plain, RandomStream, RecordsStated, ap, arith, drawn_for, draws_none, failure_told, length, mark_unmade, model_request, refl, replay, world, ◌∙◌}
 use Rattle.service_calls.specs.declared.output.Output.TheVariants as output
-use Rattle.callers.proofs.{Generating.few_for, Generating.generates, Generating.generation_replies, Generating.made_own, Generating.unmade_own, Failing.stated_plainly, Failing.unmade_tells, Made.made_gives, Made.unmade_gives, Supposed.by_before}
+use Rattle.callers.proofs.{Generating.few_for, Generating.generates, Generating.generated_marked, Generating.generation_replies, Generating.made_own, Generating.unmade_own, Failing.stated_plainly, Failing.unmade_tells, Made.made_gives, Made.unmade_gives, Supposed.by_before}
 use Rattle.callers.proofs.{Readying.known, Storing.created_answered, Storing.decided_known, Storing.drew_ready, Storing.has_no_filling, Storing.if_err, Storing.if_ok}
 use Rattle.callers.proofs.caller.Caller.create_random.Goals as goal
 
@@ -23,7 +23,7 @@ returns-in-Ok g c =
       ready = drew_ready w old new r (Generate a) asks created (drawn_for a) (few_for a) same.number same.spent same.handles same.spares stream c.create-rank.ensures.at c.create-rank.ensures.legal (λ start starts tells.
           let k = known w 4 old new r 2 request Plain c.create-rank.result.0 created.before created.entry created.called start starts tells in
           made_own (replay start created.before) old.number a c.requires.whole (length bytes) c.requires.count r.operations old.stream.place new.stream.place k.sound r.last k.own id (ap (λ (s : RandomStream). s.place) stream) (made start starts tells));
-      answered = created_answered w old new r (Generate a) asks created (by_before w created.decided) (Ok (output.Identifier id)) (λ start is. refl)
+      answered = created_answered w old new r (Generate a) asks created (by_before w created.decided) (Ok (output.Identifier id)) (λ start is. refl) (λ service made. tt)
           (λ service made. made_gives service old.number (OnStore (Generate a)) records bytes (generation_replies service old.number a bytes c.requires.whole c.requires.count) id made);
       spent = same.spent;
       handles = same.handles;
@@ -40,6 +40,7 @@ returns-in-Err g c =
           let k = known w 4 old new r 2 request (mark_unmade why) c.create-rank.result.0 created.before created.entry created.called start starts tells in
           unmade_own (replay start created.before) old.number a c.requires.whole (length bytes) c.requires.count r.operations old.stream.place new.stream.place k.sound r.last k.own why (let p = ap (λ (s : RandomStream). s.place) stream in omega arith) (unmade start starts tells));
       answered = created_answered w old new r (Generate a) asks created (by_before w created.decided) (Err c.status.result) (λ start is. let d = created.decided start is in ap failure_told c.status.ensures ∙ unmade_tells records d.model (stated_plainly None old.number a (length bytes) d.model) why d.holds)
+          (λ service unmade. generated_marked service old.number a (length bytes) c.requires.whole c.requires.count why unmade)
           (λ service unmade. rw c.status.ensures (unmade_gives service old.number (OnStore (Generate a)) records bytes (generation_replies service old.number a bytes c.requires.whole c.requires.count) why unmade));
       spent = same.spent;
       handles = same.handles;

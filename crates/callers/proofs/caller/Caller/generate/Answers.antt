@@ -13,5 +13,5 @@ returns-then-not-says_bytes-clause-ready g c =
 pub returns-then-not-says_bytes-clause-answered : goal.returns-then-not-says_bytes-clause-answered
 returns-then-not-says_bytes-clause-answered g c buffer =
     let w = world c.args.shared.now in let old = c.args.self.now in let new = record old { pass = c.count-rank.new.pass } in let asks = ap (λ x. model_request x c.args.room) c.requires.call in let ranked = c.count-rank.ensures.counted in
-    stored_answered w old new c.requires.ready (Generate c.args.attributes) asks ranked (undecided w old new c.requires.ready (Generate c.args.attributes) asks ranked) (Err InvalidArgument) buffer buffer (λ start is. refl)
+    stored_answered w old new c.requires.ready (Generate c.args.attributes) asks ranked (undecided w old new c.requires.ready (Generate c.args.attributes) asks ranked) (Err InvalidArgument) buffer buffer (λ start is. refl) (λ service none. tt)
     (λ service none. let g = no_bytes_give service old.number c.args.attributes InvalidArgument (c.says_bytes.ensures.no c.if-not-says_bytes.true) in (g.answers, g.unwritten buffer))

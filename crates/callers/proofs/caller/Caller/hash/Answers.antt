@@ -10,7 +10,7 @@ returns g c =
     let same : SameButPass old new = record { number = refl; spent = refl; stream = refl; spares = refl; handles = refl } in record {
       ready = stored_ready w old new c.requires.ready call asks ranked same (λ store caller random. ap (λ (o : Outcome). o.drawn) (hashes store caller random c.args.asked.now (length shown))) c.count-rank.ensures.at c.count-rank.ensures.legal;
       answered = stored_answered w old new c.requires.ready call asks ranked (undecided w old new c.requires.ready call asks ranked) result shown c.compute_hash-result.new.out
-          (λ start starts. answers_plain result (plain_step start old.number (OnStore call)).reply (subst (AnswersReply result) (is start) c.compute_hash-result.ensures.reply) (answers_plainly start old.number (OnStore call)))
+          (λ start starts. answers_plain result (plain_step start old.number (OnStore call)).reply (subst (AnswersReply result) (is start) c.compute_hash-result.ensures.reply) (answers_plainly start old.number (OnStore call))) (λ service none. tt)
           (λ service none. let there = is service in (subst (AnswersReply result) there c.compute_hash-result.ensures.reply, c.compute_hash-result.ensures.buffer ∙ ap (buffer_after shown) there));
       same = same;
     }
