@@ -1,5 +1,5 @@
 -- What the one-thread service makes of a call that the secure element has computed, refused or failed at.
-use Rattle.callers.proofs.Common.{AnswersCall, AnswersReply, Bool, Call, Ctr, ElementCall, Entry, Err, Failed, FaultMark, HandleOperation, Hardware, HasDrawn, InvalidSignature, IsElementAnswered, IsOfElement, IsOwnPart, IsReplied, IsSound, Key, KeyedCall, List, MatchOption, None, NotComputed, Ok, OnStore, Option, Output, Plain, Random, Refused, Reply, Request, Result, Rows, Service, Some, Status, Store, all_rows, ap, arith, asks_device, buffer_after, bytes_of_key, computed_unless, cond, counted, drawn_by, drop, element_reply, enciphered, false, false≢true, first_row, first_row-back, first_row-front, given, has_vector, if◌then◌else◌, inl, inr, is_ok, is_opaque_key, is_some, key_rows, length, mark_computed, marked_reply, model_call, model_keyed_call, nat_lt, next_random, own_of, plain_step, refl, refusal, replies, reply_on, reply_unless, rows_before, serve, step, subst, sym, take, takes_vector, true, words_used, ℕ, ◌&&◌, ◌++◌, ◌+◌, ◌∙◌, ◌≡◌, ◌≤◌, ◌⊎◌}
+use Rattle.callers.proofs.Common.{AnswersCall, AnswersReply, Bool, Call, Ctr, ElementCall, Entry, Err, Failed, FaultMark, HandleOperation, Hardware, HasDrawn, InvalidSignature, IsElementAnswered, IsOfElement, IsOwnPart, IsReplied, IsSound, Key, KeyedCall, List, MatchOption, None, NotComputed, Ok, OnStore, Option, Output, Plain, Random, Refused, Reply, Request, Result, Rows, Service, Some, Status, Store, all_rows, ap, arith, asks_device, buffer_after, bytes_of_key, computed_unless, cond, counted, drawn_by, drop, element_reply, enciphered, false, first_row, first_row-back, first_row-front, given, has_vector, if◌then◌else◌, inl, inr, is_ok, is_some, key_rows, length, mark_computed, marked_reply, model_call, model_keyed_call, nat_lt, next_random, own_of, plain_step, refl, refusal, replies, reply_on, reply_unless, rows_before, serve, step, subst, sym, take, takes_vector, true, words_used, ℕ, ◌&&◌, ◌++◌, ◌+◌, ◌∙◌, ◌≡◌, ◌≤◌, ◌⊎◌}
 use Rattle.std.specs.FinMap as map
 use Rattle.std.specs.Prelude.{◌||◌, ◌-◌}
 use Rattle.std.proofs.lemmas.Bool.Decides.{nat_tests}

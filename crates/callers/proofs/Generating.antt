@@ -1,5 +1,5 @@
 -- A caller after a call that creates a key of random bytes.
-use Rattle.callers.proofs.Common.{Attributes, Bool, Caller, CreatesKey, Entry, Err, FaultMark, Generate, GoesOn, HandleOperation, IsMade, IsOwnPart, IsReady, IsSound, IsUnmade, KeyId, List, None, NotMade, Ok, OnStore, Option, Outcome, Plain, Random, RecordsStated, Request, Result, Service, Some, Status, Store, World, ap, arith, created_unless, drawn_for, false, first_row, generated, generation_of, if◌then◌else◌, inl, inr, is_destruction, length, mark_unmade, nat_lt, nat_tests, next_bytes, next_random, own_of, plain_step, recorded_of, refl, replay, serve, stated_bits_rows, stated_bytes, step, subst, sym, true, unless, words_used, ℕ, ◌+◌, ◌<◌, ◌>>=◌, ◌∙◌, ◌≡◌, ◌≤◌, IsStartOf, ToldBy}
+use Rattle.callers.proofs.Common.{Attributes, Bool, Caller, CreatesKey, Entry, Err, FaultMark, Generate, GoesOn, HandleOperation, IsMade, IsOwnPart, IsReady, IsSound, IsUnmade, KeyId, List, None, NotMade, Ok, OnStore, Option, Outcome, Plain, Random, RecordsStated, Request, Result, Service, Some, Status, Store, World, ap, arith, created_unless, drawn_for, false, first_row, generated, generation_of, if◌then◌else◌, inl, inr, is_destruction, length, mark_unmade, nat_lt, nat_tests, next_bytes, next_random, own_of, plain_step, recorded_of, refl, replay, serve, stated_bits_rows, stated_bytes, step, subst, sym, true, unless, words_used, ℕ, ◌+◌, ◌>>=◌, ◌∙◌, ◌≡◌, ◌≤◌, IsStartOf, ToldBy}
 use Rattle.store_core.specs.declared.creating.NotMade.TheVariants as unmade
 use Rattle.store_core.specs.declared.creating.Unkept.TheVariants as unkept
 use Rattle.store_model.specs.Prelude.{MayBeMarked}

@@ -1,5 +1,5 @@
 -- Where the mark of a call may stand, by what its turn decided.
-use Rattle.callers.proofs.Common.{Attributes, Copy, Corrupt, Destroy, FaultMark, IsRefused, IsUncopied, IsUndestroyed, IsUnmade, Key, List, None, NotCopied, NotDestroyed, NotMade, Ok, OnStore, Option, Plain, Reply, Request, Result, Service, Some, Status, Store, ap, asks_device, bytes_of_key, cond, created, created_unless, false, false≢true, id_read, is_destruction, is_opaque_key, mark_of, mark_uncopied, mark_undestroyed, mark_unmade, not, plain_step, recorded_copy, refl, status_of, subst, sym, there_rows, true, ℕ, ◌∙◌, ◌≡◌}
+use Rattle.callers.proofs.Common.{Attributes, Copy, Destroy, FaultMark, IsRefused, IsUncopied, IsUndestroyed, IsUnmade, Key, List, NotCopied, NotDestroyed, NotMade, Ok, OnStore, Option, Plain, Reply, Request, Result, Service, Some, Status, Store, ap, asks_device, bytes_of_key, cond, created, created_unless, false, false≢true, id_read, is_destruction, is_opaque_key, mark_of, mark_uncopied, mark_undestroyed, mark_unmade, not, plain_step, refl, status_of, subst, sym, there_rows, ℕ, ◌∙◌, ◌≡◌}
 use Rattle.std.specs.FinMap as map
 use Rattle.std.specs.Prelude.{◌||◌}
 use Rattle.std.specs.Option.{option_and_then}
