@@ -198,9 +198,11 @@ module _ (service : Service) (caller id : ℕ) (asked : KeyedCall) (element : El
 
         silent : is_some held ≡ false → first_row (all_rows element (length old) here) ≡ None → (r : Result ℕ NotComputed) → result ≡ r → mark_computed result ≡ Plain → IsOfElement element r → ((status : Status) → r ≡ Err (Refused status) → new ≡ old) → (r ≡ Err Failed → ⊥) → Fits answer
         silent untold none r is plainly of kept works =
-            let given = of_element element id old new r size (rows_none (first_row (key_rows element here)) (first_row (rows_before element (length old))) (sym (first_of (key_rows element here) (rows_before element (length old))) ∙ none)) of kept a.rest works in
-            (given.0, inr (untold, plainly, ap (λ c. asks_device service caller (OnStore c)) model ∙ asks service caller id (length old) element a.opaque none, subst (λ c. MayCompute (OnStore c) given.0) (sym model) given.1),
-            (answers given.0 (subst (λ x. AnswersCall element x given.0) (sym is) given.2), given.3))
+            let given = of_element element id old new r size (rows_none (first_row (key_rows element here)) (first_row (rows_before element (length old))) (sym (first_of (key_rows element here) (rows_before element (length old))) ∙ none)) of kept a.rest works in (
+              given.0,
+              inr (untold, plainly, ap (λ c. asks_device service caller (OnStore c)) model ∙ asks service caller id (length old) element a.opaque none, subst (λ c. MayCompute (OnStore c) given.0) (sym model) given.1),
+              (answers given.0 (subst (λ x. AnswersCall element x given.0) (sym is) given.2), given.3),
+            )
 
         by_row : is_some held ≡ false → (o : Option Status) → first_row (all_rows element (length old) here) ≡ o → MatchOption o (IsOfElement element result) (λ status. result ≡ Err (Refused status)) → Fits answer
         by_row untold (Some status) row is = refuses status row is
