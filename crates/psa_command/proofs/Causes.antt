@@ -5,7 +5,7 @@ use Rattle.admission.specs.Apply.{picked}
 use Rattle.psa_status.specs.Causes.{Rose}
 use Rattle.policy_rules.specs.declared.narrowing.Label.{Label}
 use Rattle.disk_face.specs.Disk.{NoNewImage}
-use Rattle.key_cells.specs.Prelude.{IsFirstDamaged, IsNoStore, IsFoundIn, IsOpeningRefused}
+use Rattle.key_cells.specs.Prelude.{IsFirstDamaged, IsNoStore, IsFoundIn}
 use Rattle.key_cells.specs.declared.reading.OpenFault.{OpenFault}
 use Rattle.key_cells.specs.declared.reading.OpenFault.TheVariants as opening
 use Rattle.command_words.specs.declared.command.Command.TheVariants.{Run, Generate}
@@ -62,7 +62,7 @@ module _ {D A C : Type 0} (disks : Disk.Ghosts D) (elements : Devices.Ghosts A) 
   HasCause DiskFault = Rose (disks.faults disk) (disks.faults disk_after)
   HasCause _ = Unit {0}
 
-  of_opening : (fault : OpenFault) → IsOpeningRefused disks disk disk_after fault × (devices_after ≡ devices) → HasCause (exit_of fault)
+  of_opening : (fault : OpenFault) → IsUnanswered disks elements admits disk devices [] [] [] (NotOpened fault) disk_after devices_after → HasCause (exit_of fault)
   of_opening opening.NotAStore u = elim u.0 [ inl r ↦ (r.caused, ((r.calm tt).same, (r.calm tt).crash)) | inr m ↦ absurd (let e = m.0 in cc) ]
   of_opening (opening.DamagedCell cell) u = elim u.0 [ inl r ↦ (r.caused, ((r.calm tt).same, (r.calm tt).crash)) | inr m ↦ absurd (let e = m.0 in cc) ]
   of_opening opening.Disk u = elim u.0 [ inl r ↦ r.rose tt | inr m ↦ absurd (let e = m.0 in cc) ]

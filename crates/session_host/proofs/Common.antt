@@ -11,8 +11,7 @@ pub use Rattle.script_lang.specs.{declared.replies.Replies.Replies, declared.rep
 pub use Rattle.service_calls.specs.declared.output.Output.{Output}
 pub use Rattle.session_host.specs.Bounds.{AreBounded, ArePlain, LinesAreBounded, failures_marked, is_failure}
 pub use Rattle.session_host.specs.Dealing.{AreDealt, AreTaken, HaveOwn, IsFree, IsFrom, dealt}
-pub use Rattle.session_host.specs.{Places.failure_of, Places.failures_of, Places.failures_to, Places.of_calls, Replying.ArePrintedAlike, Replying.Fills, Replying.IsNoted, Replying.NotesLine, Replying.reply_of}
-pub use Rattle.session_host.proofs.Ranked.{ranked_call}
+pub use Rattle.session_host.specs.{Places.failure_of, Places.failures_of, Places.failures_to, Places.of_calls, Places.ranked_call, Replying.ArePrintedAlike, Replying.Fills, Replying.IsNoted, Replying.NotesLine, Replying.reply_of}
 pub use Rattle.session_host.specs.{Running.AreCallers, Running.HaveAnswered, Running.HaveKept, Running.HaveMade, Running.HaveSeen, Running.all_replies, Runs.AreAnswered, Runs.IsBroken, Runs.IsOpening, Runs.IsRun, Runs.IsInLineOrder}
 pub use Rattle.session_host.specs.Sessions.{AreCalledIn, AreTurnsIn, GoesFurther, HasAnswered, HasMade, HasReplies, IsMade, IsReplyTo, IsTurnIn}
 pub use Rattle.session_host.specs.Workers.{AreApart, ChangesAt, HasLearned, HasSeated, HasSeen, HasWorked, HaveForm, HaveRun, IsOurs, numbers_of}

@@ -1,7 +1,6 @@
 mod Common
 mod Gathered
 mod Ran
-mod Ranked
 mod Replayed
 mod Sent
 mod Whole

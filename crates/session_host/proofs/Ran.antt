@@ -63,6 +63,6 @@ module _ {D A C : Type 0} (disks : Disk.Ghosts D) (elements : Devices.Ghosts A) 
         own = own_turns;
         printed = printed;
         failures = bounded_lines (is_some (disks.contents disk)) before.counts after closed.history 16 (all_replies replies) few_marks
-            (ap (map failure_of) printed ∙ replies_tell w opening.start opening.starts closed.history (λ session. lines_of session lines) turns own_turns 16);
+            (ap (map failure_of) printed ∙ replies_tell w opening.starts.0 opening.starts.1 closed.history (λ session. lines_of session lines) turns own_turns 16);
         line_order = λ is. line_order w lines callers closed.history made.are.sixteen made.are.numbers sessions closed.left.signed closed.seen closed.called replies d r h (one is);
       }

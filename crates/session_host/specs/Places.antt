@@ -3,12 +3,16 @@ use Rattle.std.specs.Prelude.{ℕ, zero, suc, ◌+◌, ◌==◌, cond, List, [],
 use Rattle.psa_status.specs.declared.Status.{Status}
 use Rattle.callers.specs.Failures.{failure_marked, failure_told}
 use Rattle.store_model.specs.Prelude.{Entry}
-use Rattle.script_lang.specs.Prelude.{ReplyLine}
+use Rattle.script_lang.specs.Prelude.{ReplyLine, Turn}
 
 -- what stands for each of a session's calls in a history, by its place there, from a rank on
 abbrev pub of_calls : {X : Type 0} → (at : (rank : ℕ) → Entry → X) → (session rank : ℕ) → List Entry → List X
 of_calls at session rank [] = []
 of_calls at session rank (e ∷ es) = cond (e.caller == session) (at rank e ∷ of_calls at session (rank + 1) es) (of_calls at session (rank + 1) es)
+
+-- a turn's rank and entry
+abbrev pub ranked_call : Turn → ℕ × Entry
+ranked_call t = (t.rank, t.entry)
 
 -- the failures that their marks are of
 abbrev pub failures_of : (session : ℕ) → List Entry → List (Option Status)

@@ -7,7 +7,7 @@ use Rattle.key_cells.specs.declared.reading.OpenFault.{OpenFault}
 use Rattle.store_model.specs.Prelude.{Service, Entry, IsSoundStore}
 use Rattle.store_core.specs.declared.store.Opened.{Opened}
 use Rattle.store_core.specs.Prelude.{FindsKeysOf, opening_of}
-use Rattle.locked_store.specs.Prelude.{IsStartOf, World, world_of}
+use Rattle.locked_store.specs.Prelude.{IsNotOpened, IsStartOf, World, world_of}
 use Rattle.caller_service.specs.Closing.{IsLeft}
 use Rattle.script_lang.specs.declared.script.ScriptLine.{ScriptLine}
 use Rattle.script_lang.specs.Prelude.{AreAllKept, ReplyLine, Turn, lines_of, replies_to}
@@ -21,7 +21,7 @@ use Rattle.session_host.specs.declared.lines.Unanswered.TheVariants.{NotOpened, 
 use Rattle.disk_face.specs.declared.Disk as Disk
 use Rattle.driver_dispatch.specs.declared.devices.Devices as Devices
 use Rattle.admission.specs.declared.rules.Admission as Admission
-use Rattle.key_cells.specs.Prelude.{IsOpened, IsOpeningRefused}
+use Rattle.key_cells.specs.Prelude.{IsOpened}
 
 -- the calls of a history are made in the order of the lines
 abbrev pub IsInLineOrder : List ScriptLine → List Entry → Type 0
@@ -31,8 +31,7 @@ module _ {D A C : Type 0} (w : World D A C) where
   -- The opening of a store from this disk, with these devices, rules of these labels and this seed. There is a start, and each is
   -- sound. Where the disk tells its bytes, the keys of a start are those of its image. The disk's count of faults hasn't fallen.
   pub record IsOpening (disk : D) (devices : A) (named : List Label) (seed : List ℕ) : Type 0 where
-    pub start : Service
-    pub starts : IsStartOf w start
+    pub starts : (start : Service) × IsStartOf w start
     pub sound : (start : Service) → IsStartOf w start → IsSoundStore start.store
     pub keys : IfSome (w.disk.contents disk) (FindsKeysOf w.disk w.devices w.rules w.opened)
     pub found : IsOpened w.disk disk w.opened.file.value.cells.disk w.opened.file.value.cells.states.items
@@ -80,5 +79,5 @@ module _ {D A C : Type 0} (disks : Disk.Ghosts D) (elements : Devices.Ghosts A) 
   -- The lines have no replies for this reason: their store wasn't opened, and the devices come back as they were, or memory ran
   -- out after that.
   abbrev pub IsUnanswered : (disk : D) (devices : A) (named : List Label) (seed : List ℕ) (lines : List ScriptLine) → Unanswered → (disk_after : D) (devices_after : A) → Type 0
-  IsUnanswered disk devices named seed lines (NotOpened fault) disk_after devices_after = IsOpeningRefused disks disk disk_after fault × (devices_after ≡ devices)
+  IsUnanswered disk devices named seed lines (NotOpened fault) disk_after devices_after = IsNotOpened disks disk disk_after fault × (devices_after ≡ devices)
   IsUnanswered disk devices named seed lines Memory disk_after devices_after = IsBroken disk devices named seed lines disk_after devices_after

@@ -2,7 +2,7 @@
 use Rattle.std.specs.Prelude.{ℕ, ◌≡◌, ◌⊎◌, ◌≤◌, ◌*◌, List, [], ◌∷◌, ◌++◌, All, length, map}
 use Rattle.turn_history.specs.declared.pass.View.{View}
 use Rattle.turn_history.specs.Prelude.{entries_of, StartsWith}
-use Rattle.store_model.specs.Prelude.{Reply, FaultMark, Request, Entry}
+use Rattle.store_model.specs.Prelude.{Reply, FaultMark, Service, Request, Entry}
 use Rattle.store_core.specs.declared.store.Opened.{Opened}
 use Rattle.callers.specs.Called.{IsCalled, KnowsReply}
 use Rattle.callers.specs.Failures.{failure_marked, failure_told}
@@ -13,7 +13,7 @@ use Rattle.script_lang.specs.declared.script.ScriptLine.{ScriptLine}
 use Rattle.script_lang.specs.Prelude.{AreCalls, AreKept, ReplyLine, lines_of, numbered, Turn, id_given}
 use Rattle.script_lang.specs.declared.replies.Replies.{Replies}
 use Rattle.session_host.specs.declared.session.Session.{Session}
-use Rattle.session_host.specs.Places.{of_calls}
+use Rattle.session_host.specs.Places.{of_calls, ranked_call}
 use Rattle.session_host.specs.Replying.{ArePrintedAlike}
 
 -- the calls of these lines are among a history's, in this order
@@ -48,7 +48,7 @@ module _ {D A C : Type 0} (w : World D A C) where
   -- identifier that the session's own reply before gave.
   pub record AreTurnsIn (h : List Entry) (session : ℕ) (lines : List ScriptLine) (turns : List Turn) : Type 0 where
     pub calls : AreCalls [] lines turns
-    pub placed : map (λ t. (t.rank, t.entry)) turns ≡ of_calls (λ rank e. (rank, e)) session 0 h
+    pub placed : map ranked_call turns ≡ of_calls (λ rank e. (rank, e)) session 0 h
     pub each : All (IsTurnIn h) turns
 
   -- A caller made a call. Its entry stands at the rank in what the caller has then seen, and this is its reply.
