@@ -21,3 +21,4 @@ pub use Rattle.store_model.proofs.Sound.{put, room_of, taken}
 pub use Rattle.store_model.specs.Prelude.{bytes_of_key, cipher_usage, CipherEncrypt, compute_rows, Computed, computed_unless, count_persistent, counted, created, created_unless, decided, Destroy, destroy_rows, destroyed, encrypt_rows, encrypted, Entry, Export, export_reply, export_rows, given, has_secure_element, identified, Identifier, Import, is_ctr, is_volatile, is_volatile_of, iv_length, Key, live_volatile, mac_reply, mac_usage, MacCompute, made_of, mode_of, new_id, new_key, new_own, on_store, OnStore, Outcome, outcome_of, output_bytes, Own, own_of, Plain, recorded_of, refused, replies, Reply, reply_unless, Request, room_for_key_rows, serve, Served, Service, Settings, Store, use_rows, with_computed, with_drawn}
 pub use Rattle.std.proofs.lemmas.Bool.{cond-false, eqb-false, false_from_ne_true}
 pub use Rattle.std.proofs.lemmas.List.FromFn.{length-map-range_with_len, map-range_with_len_more}
+pub use Rattle.std.proofs.Common.{All, Bool, List, None, Option, Some, [], ap, append_assoc, arith, codes, cond, count_by, false, is_some, length, map, not, refl, rules, subst, sym, true, ℕ, ◌++◌, ◌+◌, ◌-◌, ◌==◌, ◌∙◌, ◌∷◌, ◌≡◌}

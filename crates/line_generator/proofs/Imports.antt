@@ -1,6 +1,6 @@
 -- What a caller's import of a volatile key makes, by what that caller sees.
-use Rattle.std.proofs.Common.{Bool, Err, IfOk, List, None, Ok, Option, Result, Some, [], ap, cond, false, get_or, is_some, length, nat_le, not, refl, slice_set, subst, sym, true, ℕ, ◌%◌, ◌&&◌, ◌*◌, ◌+◌, ◌==◌, ◌^◌, ◌||◌, ◌∙◌, ◌∷◌, ◌≡◌}
-use Rattle.line_generator.proofs.Common.{AlreadyExists, Attributes, count_persistent, created, first_row, has_secure_element, identified, InsufficientStorage, is_volatile, is_volatile_of, Key, KeyLimit, length-set, list_any, live_volatile, new_id, new_key, put, recorded_of, room_for_key_rows, Rows, Settings, Status, Store, unless}
+use Rattle.std.proofs.Common.{rules, Bool, Err, IfOk, List, None, Ok, Option, Result, Some, [], ap, cond, false, get_or, is_some, length, not, refl, slice_set, subst, sym, true, ℕ, ◌%◌, ◌&&◌, ◌*◌, ◌+◌, ◌==◌, ◌^◌, ◌∙◌, ◌∷◌, ◌≡◌}
+use Rattle.line_generator.proofs.Common.{AlreadyExists, Attributes, created, first_row, has_secure_element, identified, InsufficientStorage, is_volatile, is_volatile_of, Key, KeyLimit, length-set, list_any, live_volatile, new_id, new_key, put, recorded_of, room_for_key_rows, Rows, Settings, Status, Store, unless}
 use Rattle.std.specs.FinMap as map
 use Rattle.psa_status.specs.Rows.{◌>>=◌}
 use Rattle.psa_status.proofs.Rows.{unless-ok}
@@ -86,8 +86,7 @@ rooms_of_volatile full full' taken taken' many many' false v e = absurd (cc)
 
 rooms : (caller : ℕ) (a b : Store) (kept : Attributes) → AlikeStores caller a b → is_volatile kept ≡ true → room_for_key_rows a caller kept ≡ room_for_key_rows b caller kept
 unfolding room_rows_of
-rooms caller a b kept h v = rooms_of_volatile _ _ (is_some (map.get a.keys kept.id.0)) (is_some (map.get b.keys kept.id.0)) (nat_le 512 (count_persistent a.keys)) (nat_le 512 (count_persistent b.keys)) (is_volatile kept) v
-    (λ i. nat_le 16 (h.live i) || nat_le (2 ^ 20) (h.made i))
+rooms caller a b kept h v = search rules
 
 pub recorded_same : (caller : ℕ) (a b : Store) (stated : Attributes) (n : ℕ) → AlikeStores caller a b → is_volatile stated ≡ true →
     recorded_of a caller stated n ≡ recorded_of b caller stated n

@@ -1,6 +1,6 @@
 -- A call of a caller on its own volatile keys: what it answers, and what it leaves, is decided by what the caller sees.
-use Rattle.std.proofs.Common.{Bool, Err, List, None, Ok, Option, Result, Some, [], ap, arith, cond, eqb-true, false, inl, inr, is_some, length, not, refl, slice_set, subst, sym, true, ℕ, ◌&&◌, ◌*◌, ◌+◌, ◌-◌, ◌/◌, ◌<◌, ◌==◌, ◌^◌, ◌∙◌, ◌∷◌, ◌≡◌}
-use Rattle.line_generator.proofs.Common.{Attributes, bytes_of_key, cipher_usage, CipherEncrypt, compute_rows, Computed, computed_unless, cond-false, counted, created, created_unless, decided, Destroy, destroy_rows, destroyed, encrypt_rows, encrypted, Export, export_reply, export_rows, false_from_ne_true, first_row, given, id_given, Identifier, Import, InvalidHandle, is_ctr, is_volatile, is_volatile_of, iv_length, Key, length-set, live_volatile, mac_reply, mac_usage, MacCompute, made_of, mode_of, nat_tests, new_id, new_key, on_store, OnStore, Outcome, Own, Plain, put, recorded_of, refused, replies, reply_unless, Request, room_for_key_rows, room_of, serve, Served, Service, Settings, Status, Store, Success, taken, use_rows, with_computed}
+use Rattle.std.proofs.Common.{rules, Bool, Err, List, None, Ok, Option, Result, Some, [], ap, arith, cond, eqb-true, false, inl, inr, is_some, length, not, refl, slice_set, subst, sym, true, ℕ, ◌&&◌, ◌*◌, ◌+◌, ◌-◌, ◌/◌, ◌<◌, ◌==◌, ◌^◌, ◌∙◌, ◌∷◌, ◌≡◌}
+use Rattle.line_generator.proofs.Common.{Attributes, bytes_of_key, cipher_usage, CipherEncrypt, compute_rows, Computed, computed_unless, cond-false, counted, created, created_unless, decided, Destroy, destroy_rows, destroyed, encrypt_rows, encrypted, Export, export_reply, export_rows, false_from_ne_true, first_row, given, id_given, Identifier, Import, InvalidHandle, is_ctr, is_volatile, is_volatile_of, iv_length, Key, length-set, live_volatile, mac_reply, mac_usage, MacCompute, made_of, mode_of, nat_tests, new_id, new_key, on_store, OnStore, Outcome, Own, Plain, put, recorded_of, refused, replies, reply_unless, Request, room_for_key_rows, serve, Served, Service, Settings, Status, Store, Success, taken, use_rows, with_computed}
 use Rattle.std.specs.FinMap as map
 use Rattle.alg_encoding.specs.declared.table.Class.{Class}
 use Rattle.alg_encoding.specs.declared.table.Class.TheVariants.{Cipher, Mac}
@@ -161,9 +161,7 @@ new_place : (caller made : ℕ) → made < 2 ^ 20 → ((0x40000000 + caller * 2 
 new_place caller made h = let e : (0x40000000 + caller * 2 ^ 20 + made) / 2 ^ 20 ≡ 1024 + caller = omega arith in grind (arith, nat_tests)
 
 pub new_own : (store : Store) (caller : ℕ) (kept : Attributes) → is_volatile kept ≡ true → first_row (room_for_key_rows store caller kept) ≡ None → is_volatile_of caller (new_id store caller kept) ≡ true
-new_own store caller kept v room =
-    let few = (room_of store caller kept true v room).1 in
-    subst (λ b. is_volatile_of caller (cond b (0x40000000 + caller * 2 ^ 20 + made_of store caller) kept.id.0) ≡ true) (sym v) (new_place caller (made_of store caller) few)
+new_own store caller kept v room = search rules
 
 -- what a call of one caller leaves of another's keys
 record Leaves (other : ℕ) (before after : Store) : Type 0 where

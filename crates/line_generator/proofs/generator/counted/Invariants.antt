@@ -1,5 +1,4 @@
-use Rattle.std.proofs.Common.{◌≡◌}
-use Rattle.line_generator.proofs.Common.{rising_bytes}
+use Rattle.line_generator.proofs.Common.{rising_bytes, ◌≡◌}
 use Rattle.line_generator.proofs.generator.counted.Given as goal
 
 abbrev pub invariant-loop-t : goal.invariant-loop-t

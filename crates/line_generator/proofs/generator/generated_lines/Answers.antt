@@ -1,5 +1,4 @@
-use Rattle.std.proofs.Common.{All, [], ap, arith, length, rules, subst, sym, ℕ, ◌++◌, ◌∙◌, ◌∷◌, ◌≡◌}
-use Rattle.line_generator.proofs.Common.{All-push, generator_line, IsOfSession, length-map-range_with_len}
+use Rattle.line_generator.proofs.Common.{All-push, generator_line, IsOfSession, length-map-range_with_len, All, [], ap, arith, length, rules, subst, sym, ℕ, ◌++◌, ◌∙◌, ◌∷◌, ◌≡◌}
 use Rattle.line_generator.proofs.Ranges.{mapped_more}
 use Rattle.line_generator.proofs.generator.generated_lines.Goals as goal
 

@@ -1,5 +1,4 @@
-use Rattle.std.proofs.Common.{All, ◌≡◌}
-use Rattle.line_generator.proofs.Common.{IsOfSession, generator_lines}
+use Rattle.line_generator.proofs.Common.{IsOfSession, generator_lines, All, ◌≡◌}
 use Rattle.line_generator.proofs.generator.generated_lines.Given as goal
 
 abbrev pub invariant-loop-number : goal.invariant-loop-number

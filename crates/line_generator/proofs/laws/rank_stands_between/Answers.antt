@@ -1,5 +1,4 @@
-use Rattle.std.proofs.Common.{List, append_assoc, codes, refl, ℕ, ◌++◌, ◌≡◌}
-use Rattle.line_generator.proofs.Common.{bytes_text, reply_text, unranked_text}
+use Rattle.line_generator.proofs.Common.{bytes_text, reply_text, unranked_text, List, append_assoc, codes, refl, ℕ, ◌++◌, ◌≡◌}
 use Rattle.std.specs.Fmt.{decimal}
 use Rattle.psa_status.specs.Status.{status_name}
 use Rattle.line_generator.proofs.laws.rank_stands_between.Goals as goal

@@ -1,5 +1,4 @@
-use Rattle.std.proofs.Common.{Bool, List, [], ap, append_assoc, arith, codes, cond, count_by, false, length, not, refl, true, ℕ, ◌++◌, ◌+◌, ◌∙◌, ◌∷◌, ◌≡◌}
-use Rattle.line_generator.proofs.Common.{ReplyLine, count_line, encode_lower, is_success, sha256, sum_by-cons, summary_of}
+use Rattle.line_generator.proofs.Common.{ReplyLine, count_line, encode_lower, is_success, sha256, sum_by-cons, summary_of, Bool, List, [], ap, append_assoc, arith, codes, cond, count_by, false, length, not, refl, true, ℕ, ◌++◌, ◌+◌, ◌∙◌, ◌∷◌, ◌≡◌}
 use Rattle.line_generator.proofs.Pieces.{onto}
 use Rattle.line_generator.proofs.summary.push_summary.Goals as goal
 
