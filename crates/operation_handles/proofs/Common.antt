@@ -32,3 +32,4 @@ pub use Rattle.slot_table.specs.Lent.{Reading}
 pub use Rattle.store_model.specs.DerivationOperations.{stated_bytes}
 pub use Rattle.store_model.specs.Prelude.{Active, aead_step, aead_work, AeadWork, After, applied, buffer_after, Bytes, bytes_of_key, bytes_or_empty, cipher_step, cipher_work, CipherWork, class_rows, compared, counted, creation_of, derivation_key_rows, derivation_part, derivation_step, derivation_work, DerivationStep, DerivationWork, Deriving, done, exhausted, fails, GetCapacity, given, goes_on, handle_step, HandleOperation, hash_step, hash_work, Hashing, HashWork, Held, held_after, held_with, Inactive, InError, info_step, input_bytes_rows, input_integer_rows, input_key, input_key_rows, InputBytes, InputInteger, is_alive, is_inactive, is_of_class, Key, key_of_operation, key_step, key_step_rows, KeyCreation, mac_step, mac_work, MacWork, next_derived, Nothing, Operation, operation_of, output_key, output_key_rows, output_rows, OutputBytes, Own, own_of, part_of, recorded_of, refusal, Reply, salt_step, Served, Service, set_up, SetCapacity, stays, stepped, taken_from, underived, unless_failed, untouched, VerifyBytes, with_bytes, with_key, with_live_key, with_own, without, Work}
 pub use Rattle.std.specs.Option.{option_map}
+pub use Rattle.std.proofs.Common.{Bool, List, None, Option, Some, [], ap, cond, false, inl, inr, is_some, length, nat_lt, not, refl, subst, sym, true, ℕ, ◌%◌, ◌&&◌, ◌++◌, ◌==◌, ◌||◌, ◌∙◌, ◌∷◌, ◌≡◌}

@@ -1,6 +1,6 @@
 -- What a step of a derivation keeps: its algorithm, and its secret once that is there.
-use Rattle.std.proofs.Common.{Bool, List, None, Option, Some, [], bytes_eq, cond, false, is_some, length, nat_lt, not, refl, true, ℕ, ◌&&◌, ◌++◌, ◌==◌, ◌∙◌, ◌∷◌, ◌≡◌}
-use Rattle.operation_handles.proofs.Common.{Active, After, Attributes, DerivationState, DerivationStep, DerivationWork, Derivations, GetCapacity, InError, Inactive, InputBytes, InputInteger, InvalidArgument, IsDerivationOperation, KeyCreation, MayHave, Operation, OutputBytes, Reply, SetCapacity, Status, VerifyBytes, by_key, bytes_or_empty, class_of, class_rows, compared, derivation_step, derivation_work, derived_key_bytes, done, exhausted, first_row, given, goes_on, info_step, input_bytes_rows, input_integer_rows, is_concrete, is_of_class, next_derived, output_key_rows, output_rows, refusal, salt_step, set_up, stated_bytes, taken_from, unless_failed, with_bytes, without}
+use Rattle.std.proofs.Common.{rules, Bool, List, None, Option, Some, [], bytes_eq, cond, false, is_some, length, nat_lt, not, refl, true, ℕ, ◌&&◌, ◌++◌, ◌==◌, ◌∙◌, ◌∷◌, ◌≡◌}
+use Rattle.operation_handles.proofs.Common.{Active, After, Attributes, DerivationState, DerivationStep, DerivationWork, Derivations, GetCapacity, InError, Inactive, InputBytes, InputInteger, InvalidArgument, IsDerivationOperation, KeyCreation, MayHave, Operation, OutputBytes, Reply, SetCapacity, Status, VerifyBytes, by_key, bytes_or_empty, class_of, class_rows, compared, derivation_step, derivation_work, derived_key_bytes, done, exhausted, first_row, given, goes_on, info_step, input_bytes_rows, input_integer_rows, is_concrete, is_of_class, next_derived, output_rows, refusal, salt_step, set_up, taken_from, unless_failed, with_bytes, without}
 use Rattle.alg_encoding.specs.declared.table.Class.{Class}
 use Rattle.operation_handles.specs.Derivations.{HasAlgorithm, IsDerivation}
 
@@ -40,9 +40,7 @@ step_goes w (VerifyBytes expected) =
     unless_goes w (first_row (output_rows w)) (taken_from w (length expected) reply) (taken_goes w (length expected) reply)
 
 pub derived_goes : (w : DerivationWork) (a : Attributes) → GoesOnAs w (derived_key_bytes w a).operation
-derived_goes w a =
-    let n : ℕ = stated_bytes a in
-    unless_goes w (first_row (output_key_rows w a)) (taken_from w n (given (next_derived w n))) (taken_goes w n (given (next_derived w n)))
+derived_goes w a = search rules
 
 -- so its key may stay
 

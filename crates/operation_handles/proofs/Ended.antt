@@ -1,6 +1,5 @@
 -- An operation that isn't active leaves every state clear.
-use Rattle.std.proofs.Common.{false, ◌≡◌}
-use Rattle.operation_handles.proofs.Common.{Active, Aeads, Ciphers, Derivations, EndedOperationsAreClear, Hashes, InError, Inactive, Macs, Operation, is_active}
+use Rattle.operation_handles.proofs.Common.{Active, Aeads, Ciphers, Derivations, EndedOperationsAreClear, Hashes, InError, Inactive, Macs, Operation, is_active, false, ◌≡◌}
 use Rattle.multipart.specs.declared.Phase.{Phase}
 use Rattle.multipart.specs.declared.Phase.TheVariants as phase
 use Rattle.multipart.specs.Phases as Phases

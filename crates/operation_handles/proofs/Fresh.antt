@@ -1,6 +1,6 @@
 -- Inactive states, and an operation that was set up.
-use Rattle.std.proofs.Common.{None, Option, Some, ap, false, inl, inr, refl, subst, sym, ◌∙◌, ◌≡◌}
-use Rattle.operation_handles.proofs.Common.{Active, Aeads, After, AreInactive, AreStates, Ciphers, Derivations, Family, FamilyStates, HandleOperation, Hashes, Held, InError, Inactive, IsDerivationOperation, KeyCreation, Macs, MayHave, Operation, StandsIn, Status, Work, WorkOf, embed_of, held_after, held_with, is_active, is_inactive, set_up}
+use Rattle.std.proofs.Common.{rules}
+use Rattle.operation_handles.proofs.Common.{Active, Aeads, After, AreInactive, AreStates, Ciphers, Derivations, Family, FamilyStates, HandleOperation, Hashes, Held, InError, Inactive, IsDerivationOperation, KeyCreation, Macs, MayHave, Operation, StandsIn, Status, Work, WorkOf, embed_of, held_after, held_with, is_active, is_inactive, set_up, None, Option, Some, ap, false, inl, inr, refl, subst, sym, ◌∙◌, ◌≡◌}
 use Rattle.mac_states.specs.HashStates.{IsHashOperation}
 use Rattle.mac_states.specs.MacStates.{IsMacOperation}
 use Rattle.cipher_states.specs.States.{IsCipherOperation}
@@ -30,10 +30,7 @@ own_inactive key embed InError e = cc
 own_inactive key embed (Active w) e = cc
 
 pub all_inactive : (s : FamilyStates) (key : Option KeyCreation) (operation : HandleOperation) → AreStates s key operation → operation ≡ Inactive → AreInactive s
-all_inactive s key operation h e f = elim (which f h.family) [
-  | inl same ↦ subst (λ x. StandsIn x s Inactive) (sym same) (subst (StandsIn h.family s) (own_inactive key (embed_of h.family) h.stands.own (sym h.stands.whole ∙ e)) h.stands.is)
-  | inr n ↦ h.stands.others f n
-]
+all_inactive s key operation h e f = search rules
 
 -- SET UP
 
@@ -49,8 +46,7 @@ held_set_up key embed (Some status) work = refl
 -- a setup that may be refused
 pub set_up_are : (f : Family) (s t : FamilyStates) (refused : Option Status) (work : WorkOf f) → KeepsOtherFamilies f s t → AreInactive s → StandsIn f t (set_up Inactive refused work).operation →
     MayHave f None (set_up Inactive refused work).operation → AreStates t None (set_up Inactive refused (record { key = None; work = embed_of f work })).operation
-set_up_are f s t refused work keeps all is has =
-    subst (λ (a : After Held). AreStates t None a.operation) (sym (held_set_up None (embed_of f) refused work)) (set_up_of f s t None (set_up Inactive refused work).operation keeps all is has)
+set_up_are f s t refused work keeps all is has = search rules
 
 pub set_up_reply : {W : Type 0} (refused : Option Status) (key : Option KeyCreation) (embed : W → Work) (work : W) →
     (set_up Inactive refused work).reply ≡ (set_up {W = Held} Inactive refused (record { key = key; work = embed work })).reply
@@ -69,10 +65,7 @@ lost_key f key InError e = (in_error f, refl)
 lost_key f key (Active w) e = cc
 
 pub over : (s : FamilyStates) (key : Option KeyCreation) (operation : HandleOperation) → AreStates s key operation → is_active operation ≡ false → AreStates s None operation
-over s key operation h e =
-    let st = h.stands in
-    let lost = lost_key h.family key st.own (ap is_active (sym st.whole) ∙ e) in
-    record { family = h.family; stands = record { own = st.own; is = st.is; has = lost.0; whole = st.whole ∙ lost.1; others = st.others } }
+over s key operation h e = search rules
 
 -- each state of such an operation stands for one that isn't active
 

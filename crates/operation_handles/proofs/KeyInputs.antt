@@ -1,6 +1,5 @@
 -- A key as the secret of a handle's derivation.
-use Rattle.std.proofs.Common.{Bool, None, Option, Some, [], ap, false, is_some, not, refl, subst, sym, true, ℕ, ◌&&◌, ◌==◌, ◌∙◌, ◌∷◌, ◌≡◌}
-use Rattle.operation_handles.proofs.Common.{Active, After, AreStates, BadState, by_key, bytes_of, derivation_part, Derivations, DerivationState, DerivationWork, Deriving, done, FamilyStates, first_row, goes_on, HandleOperation, Inactive, InError, InvalidArgument, IsConcrete, IsDerivationOperation, IsOperation, key_given, key_step, key_step_refusal, key_step_rows, KeyCreation, MayHave, on_active, Operation, OperationHandle, option_map, part_of, Reading, RefusesKeyAt, Status, TakesKeyAt, unless_failed, with_key}
+use Rattle.operation_handles.proofs.Common.{Active, After, AreStates, BadState, by_key, bytes_of, derivation_part, Derivations, DerivationState, DerivationWork, Deriving, done, FamilyStates, first_row, goes_on, HandleOperation, Inactive, InError, InvalidArgument, IsConcrete, IsDerivationOperation, IsOperation, key_given, key_step, key_step_refusal, key_step_rows, KeyCreation, MayHave, on_active, Operation, OperationHandle, option_map, part_of, Reading, RefusesKeyAt, Status, TakesKeyAt, unless_failed, with_key, Bool, None, Option, Some, [], ap, false, is_some, not, refl, subst, sym, true, ℕ, ◌&&◌, ◌==◌, ◌∙◌, ◌∷◌, ◌≡◌}
 use Rattle.key_policy.specs.declared.key_use.KeyUse.TheVariants.{Derivation}
 use Rattle.operation_handles.proofs.Deriving.{goes_with, key_stays, unless_goes}
 use Rattle.operation_handles.proofs.Families.{keeps_all, keeps_put}

@@ -1,5 +1,5 @@
 -- A key of a handle's derived bytes.
-use Rattle.std.proofs.Common.{Bool, Err, List, None, Ok, Option, Some, [], ap, cond, false, is_some, nat_lt, not, refl, subst, sym, true, ℕ, ◌%◌, ◌++◌, ◌==◌, ◌||◌, ◌∙◌, ◌∷◌, ◌≡◌}
+use Rattle.std.proofs.Common.{rules, Bool, Err, List, None, Ok, Option, Some, [], ap, cond, false, is_some, nat_lt, not, refl, subst, sym, true, ℕ, ◌%◌, ◌++◌, ◌==◌, ◌||◌, ◌∙◌, ◌∷◌, ◌≡◌}
 use Rattle.operation_handles.proofs.Common.{Active, After, AreStates, Attributes, BadState, Bytes, OperationHandle, DerivationState, DerivationWork, Derivations, Deriving, FamilyStates, HandleOperation, InError, Inactive, InsufficientData, InvalidArgument, IsDerivationOperation, IsDerivedKey, IsOperation, KeyCreation, MayHave, NotPermitted, NotSupported, Nothing, Operation, Reply, Status, Success, by_key, derivation_part, derived_key_bytes, exhausted, first_row, first_row-back, first_row-front, given, goes_on, is_active, key_of_operation, location, next_derived, on_active, output_key_refusal, output_key_rows, part_of, refusal, stated_bytes, taken_from, unless_failed, without}
 use Rattle.derivation_states.specs.Replies.{AnswersFront}
 use Rattle.operation_handles.proofs.Deriving.{derived_goes, goes_with, key_stays}
@@ -26,21 +26,14 @@ pub record IsDue (w : DerivationWork) (a : Attributes) : Type 0 where
   pub enough : nat_lt w.capacity (stated_bytes a) ≡ false
 
 pub due_of : (w : DerivationWork) (a : Attributes) → output_key_refusal (Active w) a ≡ None → IsDue w a
-due_of w a e =
-    let both = none_back w a (first_row (output_key_rows w a)) refl e in
-    record { rows = both.0; enough = enough_of (nat_lt w.capacity (stated_bytes a)) both.1 }
+due_of w a e = search rules
 
 -- then it gives them
 pub derived_is : (w : DerivationWork) (a : Attributes) → IsDue w a → derived_key_bytes w a ≡ goes_on (without w (stated_bytes a)) (given (next_derived w (stated_bytes a)))
-derived_is w a due =
-    let n : ℕ = stated_bytes a in
-    ap (λ o. unless_failed o (taken_from w n (given (next_derived w n)))) due.rows
-    ∙ ap (λ b. cond b (exhausted w) (goes_on (without w n) (given (next_derived w n)))) due.enough
+derived_is w a due = search rules
 
 pub key_of : (w : DerivationWork) (a : Attributes) (count : ℕ) (old out : List ℕ) → IsDue w a → AnswersFront 1025 (Ok count) old out (derived_key_bytes w a).reply → IsDerivedKey w a count out
-key_of w a count old out due h =
-    let given_front = subst (λ (x : After DerivationWork). AnswersFront 1025 (Ok count) old out x.reply) (derived_is w a due) h in
-    record { rows = due.rows; enough = due.enough; size = given_front.1; bytes = given_front.2 }
+key_of w a count old out due h = search rules
 
 -- WHAT CAN'T BE
 

@@ -1,8 +1,8 @@
 -- What a handle stands for, with a lease and without.
-use Rattle.std.proofs.Common.{None, Option, Some, ap, false, subst, sym, ◌∙◌, ◌≡◌}
-use Rattle.operation_handles.proofs.Common.{Alg, AreInactive, AreStates, begun_with, bytes_of, HandleOperation, Inactive, is_active, IsOperation, KeyCreation, OperationHandle, option_map, Purpose, Reading, set_up_without_key}
+use Rattle.std.proofs.Common.{rules}
+use Rattle.operation_handles.proofs.Common.{Alg, AreInactive, AreStates, begun_with, bytes_of, HandleOperation, Inactive, is_active, IsOperation, KeyCreation, OperationHandle, option_map, Purpose, Reading, set_up_without_key, None, Option, Some, ap, false, subst, sym, ◌∙◌, ◌≡◌}
 use Rattle.service_calls.specs.declared.handle_calls.KeylessSetup.{KeylessSetup}
-use Rattle.operation_handles.proofs.Fresh.{all_are, all_inactive, over}
+use Rattle.operation_handles.proofs.Fresh.{all_are, all_inactive}
 
 -- the key of a lease
 abbrev HasLease : Option Reading → Option KeyCreation → Type 0
@@ -27,8 +27,7 @@ begun c d operation setup free none same code h =
 -- set up with a key, whose lease is kept
 pub begun_keyed : (c d : OperationHandle) (operation : HandleOperation) (purpose : Purpose) (alg : Alg) (reading : Reading) (key : KeyCreation) → operation ≡ Inactive → d.lease ≡ Some reading → key.number ≡ reading.creation →
     (AreInactive c.states → AreStates d.states (Some key) (begun_with purpose alg key (bytes_of reading.buffer))) → IsOperation c operation → IsOperation d (begun_with purpose alg key (bytes_of reading.buffer))
-begun_keyed c d operation purpose alg reading key free kept number code h =
-    record { key = Some key; leased = with_lease d.lease reading key kept number; are = code (all_inactive c.states h.key operation h.are free) }
+begun_keyed c d operation purpose alg reading key free kept number code h = search rules
 
 -- a key beside the states
 pub leased_as : (d : OperationHandle) (operation : HandleOperation) (reading : Reading) (key : KeyCreation) → d.lease ≡ Some reading → key.number ≡ reading.creation → AreStates d.states (Some key) operation → IsOperation d operation
@@ -36,5 +35,4 @@ leased_as d operation reading key kept number are = record { key = Some key; lea
 
 -- an operation that is over may go without its lease
 pub settled : (c d : OperationHandle) (operation : HandleOperation) → d.states ≡ c.states → d.lease ≡ None → is_active operation ≡ false → IsOperation c operation → IsOperation d operation
-settled c d operation same none ended h =
-    record { key = None; leased = without_lease d.lease none; are = subst (λ s. AreStates s None operation) (sym same) (over c.states h.key operation h.are ended) }
+settled c d operation same none ended h = search rules

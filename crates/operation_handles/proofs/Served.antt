@@ -1,6 +1,5 @@
 -- Setups and steps on a handle, as the service serves them.
-use Rattle.std.proofs.Common.{ap, refl, sym, ℕ, ◌∙◌, ◌≡◌}
-use Rattle.operation_handles.proofs.Common.{Active, After, Alg, BadState, InError, Inactive, Operation, Own, Purpose, Service, SetupsAreTheModels, Status, StepsAreTheModels, Work, applied, counted, handle_step, has_live_key, model_keyed_setup, on_part, operation_of, own_of, refusal, set_up_with_key, stays, stepped, untouched, with_own}
+use Rattle.operation_handles.proofs.Common.{Active, After, Alg, BadState, InError, Inactive, Operation, Own, Purpose, Service, SetupsAreTheModels, Status, StepsAreTheModels, Work, applied, counted, handle_step, has_live_key, model_keyed_setup, on_part, operation_of, own_of, refusal, set_up_with_key, stays, stepped, untouched, with_own, ap, refl, sym, ℕ, ◌∙◌, ◌≡◌}
 use Rattle.store_model.proofs.Operations.{same_own, same_service}
 use Rattle.key_attributes.specs.declared.KeyId.{KeyId}
 use Rattle.service_calls.specs.declared.handle_calls.KeylessSetup.TheVariants as keyless

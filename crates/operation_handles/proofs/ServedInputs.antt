@@ -1,6 +1,6 @@
 -- A key as the secret of a handle's derivation, as the service serves it.
-use Rattle.std.proofs.Common.{Bool, None, Option, Some, ap, cond, false, refl, sym, true, ℕ, ◌∙◌, ◌≡◌}
-use Rattle.operation_handles.proofs.Common.{Active, applied, BadState, bytes_of_key, creation_of, derivation_key_rows, derivation_part, DerivationWork, Deriving, done, fails, first_row, first_row-back, first_row-front, goes_on, HandleOperation, has_live_key, held_after, Inactive, InError, input_key, input_key_rows, is_alive, is_concrete, Key, key_of_operation, key_step_rows, KeyCreation, KeyInputsAreTheModels, on_part, Operation, operation_of, part_of, Served, Service, Status, TakesKeyAt, unless_failed, use_refusal, with_key, with_live_key}
+use Rattle.std.proofs.Common.{rules}
+use Rattle.operation_handles.proofs.Common.{Active, applied, BadState, bytes_of_key, creation_of, derivation_key_rows, derivation_part, DerivationWork, Deriving, done, fails, first_row, first_row-front, goes_on, HandleOperation, has_live_key, held_after, Inactive, InError, input_key, is_concrete, Key, key_of_operation, key_step_rows, KeyCreation, KeyInputsAreTheModels, on_part, Operation, operation_of, part_of, Served, Service, Status, TakesKeyAt, unless_failed, use_refusal, with_key, with_live_key, Bool, None, Option, Some, ap, cond, false, refl, sym, true, ℕ, ◌∙◌, ◌≡◌}
 use Rattle.std.specs.FinMap as map
 use Rattle.key_policy.specs.declared.key_use.KeyUse.{KeyUse}
 use Rattle.key_policy.specs.Permissions.{pattern_refusal}
@@ -51,12 +51,7 @@ refusal_is operation step wanted found h = ap (λ u. use_refusal u found) h.want
 looked_at : (service : Service) (caller handle step id : ℕ) (wanted : KeyUse) → (h : TakesKeyAt (operation_of service caller handle) step wanted) →
     input_key service caller handle (part_of derivation_part (operation_of service caller handle)) step id
     ≡ input_by service caller handle h.w (map.get service.store.keys id) id true (use_refusal wanted (map.get service.store.keys id))
-looked_at service caller handle step id wanted h =
-    let found : Option Key = map.get service.store.keys id in
-    ap (λ o. input_key service caller handle o step id) h.derives
-    ∙ ap (λ k. input_by service caller handle h.w found id (is_alive service.store k) (first_row (input_key_rows h.w found step))) h.no_key
-    ∙ ap (input_by service caller handle h.w found id true)
-    (first_row-back (key_step_rows h.w step) (derivation_key_rows found step h.w.alg) h.due ∙ sym (refusal_is (operation_of service caller handle) step wanted found h))
+looked_at service caller handle step id wanted h = search rules
 
 pub inputs : KeyInputsAreTheModels
 inputs = record {

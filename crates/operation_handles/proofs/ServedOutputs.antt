@@ -1,6 +1,5 @@
 -- A key of a handle's derived bytes, as the service serves it.
-use Rattle.std.proofs.Common.{Bool, None, Option, Some, [], ap, cond, false, is_some, nat_lt, not, refl, subst, sym, true, ℕ, ◌%◌, ◌++◌, ◌==◌, ◌||◌, ◌∙◌, ◌∷◌, ◌≡◌}
-use Rattle.operation_handles.proofs.Common.{Active, After, Attributes, BadState, DerivationWork, Deriving, InError, Inactive, InsufficientData, InvalidArgument, InvalidHandle, KeyOutputsAreTheModels, NotPermitted, NotSupported, Operation, Rows, Served, Service, Status, applied, derivation_part, derived_key_bytes, exhausted, fails, first_row, first_row-back, first_row-front, given, goes_on, has_live_key, held_after, key_of_operation, location, next_derived, on_part, operation_of, output_key, output_key_refusal, output_key_rows, part_of, recorded_of, stated_bytes, taken_from, underived, unless, unless_failed, with_live_key, without}
+use Rattle.operation_handles.proofs.Common.{Active, After, Attributes, BadState, DerivationWork, Deriving, InError, Inactive, InsufficientData, InvalidArgument, InvalidHandle, KeyOutputsAreTheModels, NotPermitted, NotSupported, Operation, Rows, Served, Service, Status, applied, derivation_part, derived_key_bytes, exhausted, fails, first_row, first_row-back, first_row-front, given, goes_on, has_live_key, held_after, key_of_operation, location, next_derived, on_part, operation_of, output_key, output_key_refusal, output_key_rows, part_of, recorded_of, stated_bytes, taken_from, underived, unless, unless_failed, with_live_key, without, Bool, None, Option, Some, [], ap, cond, false, is_some, nat_lt, not, refl, subst, sym, true, ℕ, ◌%◌, ◌++◌, ◌==◌, ◌||◌, ◌∙◌, ◌∷◌, ◌≡◌}
 use Rattle.psa_status.specs.Rows.{◌>>=◌}
 use Rattle.store_model.specs.HandleCalls as calls
 use Rattle.operation_handles.proofs.Served.{untouched_is}

@@ -1,6 +1,5 @@
 -- A step of one family's state is a step of the handle's operation.
-use Rattle.std.proofs.Common.{Bool, Option, ap, false, refl, subst, sym, true, ℕ, ◌∙◌, ◌≡◌}
-use Rattle.operation_handles.proofs.Common.{Active, After, AreStates, BadState, by_key, embed_of, Family, FamilyStates, HandleOperation, Hashes, Held, held_after, held_with, Inactive, InError, is_active, IsOperation, key_of_operation, KeyCreation, MayHave, on_part, Operation, OperationHandle, option_map, part_for, part_of, Reply, StandsIn, stays, with_live_key, Work, WorkOf}
+use Rattle.operation_handles.proofs.Common.{Active, After, AreStates, BadState, by_key, embed_of, Family, FamilyStates, HandleOperation, Hashes, Held, held_after, held_with, Inactive, InError, is_active, IsOperation, key_of_operation, KeyCreation, MayHave, on_part, Operation, OperationHandle, option_map, part_for, part_of, Reply, StandsIn, stays, with_live_key, Work, WorkOf, Bool, Option, ap, false, refl, subst, sym, true, ℕ, ◌∙◌, ◌≡◌}
 use Rattle.operation_handles.proofs.Families.{KeepsOtherFamilies, View, Busy, Idle, keeps_all, view, own_part}
 
 -- what the code did: this family's state took the step, where it is the handle's whichever it stands for, and the key may stay

@@ -1,6 +1,5 @@
 -- Whether an operation is active or inactive, by what each state tells of its own.
-use Rattle.std.proofs.Common.{Bool, Option, ap, false, sym, true, ◌&&◌, ◌||◌, ◌∙◌, ◌≡◌}
-use Rattle.operation_handles.proofs.Common.{Aeads, AreStates, Ciphers, Derivations, Family, FamilyStates, HandleOperation, Hashes, Inactive, KeyCreation, Macs, Operation, StandsIn, WorkOf, embed_of, held_with, is_active, is_inactive}
+use Rattle.operation_handles.proofs.Common.{Aeads, AreStates, Ciphers, Derivations, Family, FamilyStates, HandleOperation, Hashes, Inactive, KeyCreation, Macs, Operation, StandsIn, WorkOf, embed_of, held_with, is_active, is_inactive, Bool, Option, ap, false, sym, true, ◌&&◌, ◌||◌, ◌∙◌, ◌≡◌}
 use Rattle.std.proofs.Math.Bool.{and-true, or-false}
 use Rattle.operation_handles.proofs.Fresh.{own_active, own_is_inactive}
 

@@ -1,5 +1,4 @@
-use Rattle.std.proofs.Common.{ap, ◌∙◌}
-use Rattle.operation_handles.proofs.Common.{by_key, drawn_from}
+use Rattle.operation_handles.proofs.Common.{drawn_from, ap, ◌∙◌}
 use Rattle.operation_handles.proofs.turns.decide.Goals as goal
 
 pub returns-clause-stream : goal.returns-clause-stream

@@ -1,5 +1,4 @@
-use Rattle.std.proofs.Common.{sym}
-use Rattle.operation_handles.proofs.Common.{next_bytes}
+use Rattle.operation_handles.proofs.Common.{next_bytes, sym}
 use Rattle.operation_handles.proofs.turns.turn.Goals as goal
 
 pub returns-clause-state : goal.returns-clause-state

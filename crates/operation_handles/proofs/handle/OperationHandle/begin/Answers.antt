@@ -1,5 +1,4 @@
-use Rattle.std.proofs.Common.{ap, refl, sym, ◌∙◌}
-use Rattle.operation_handles.proofs.Common.{set_up_without_key}
+use Rattle.operation_handles.proofs.Common.{set_up_without_key, ap, refl, sym, ◌∙◌}
 use Rattle.operation_handles.proofs.Fresh.{all_inactive}
 use Rattle.operation_handles.proofs.Leases.{begun}
 use Rattle.operation_handles.proofs.handle.OperationHandle.begin.Goals as goal

@@ -1,5 +1,4 @@
-use Rattle.std.proofs.Common.{Some, subst, sym}
-use Rattle.operation_handles.proofs.Common.{AreStates, begun_with}
+use Rattle.operation_handles.proofs.Common.{AreStates, begun_with, Some, subst, sym}
 use Rattle.operation_handles.proofs.Leases.{begun_keyed}
 use Rattle.operation_handles.proofs.handle.OperationHandle.begin_with.Goals as goal
 

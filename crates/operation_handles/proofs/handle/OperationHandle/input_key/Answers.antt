@@ -1,5 +1,4 @@
-use Rattle.std.proofs.Common.{subst}
-use Rattle.operation_handles.proofs.Common.{IsDerivationOperation, key_given, on_active}
+use Rattle.operation_handles.proofs.Common.{IsDerivationOperation, key_given, on_active, subst}
 use Rattle.operation_handles.proofs.KeyInputs.{taken}
 use Rattle.operation_handles.proofs.handle.OperationHandle.input_key.Goals as goal
 

@@ -1,5 +1,4 @@
-use Rattle.std.proofs.Common.{false, refl, subst, sym, true, ◌≡◌}
-use Rattle.operation_handles.proofs.Common.{After, OperationHandle, DerivationWork, Derivations, IsDerivationOperation, IsOperation, key_refused, plain_reply, refusal}
+use Rattle.operation_handles.proofs.Common.{After, OperationHandle, DerivationWork, Derivations, IsDerivationOperation, IsOperation, key_refused, plain_reply, refusal, false, refl, subst, sym, true, ◌≡◌}
 use Rattle.operation_handles.proofs.Families.{keeps_put}
 use Rattle.operation_handles.proofs.KeyInputs.{refused_own, refusing, refusing_with}
 use Rattle.operation_handles.proofs.Steps.{step_is, step_reply}

@@ -1,5 +1,4 @@
-use Rattle.std.proofs.Common.{false, refl, subst, sym, true, ◌≡◌}
-use Rattle.operation_handles.proofs.Common.{OperationHandle, Derivations, IsOperation, derived_key_bytes, derived_key_refused, refusal}
+use Rattle.operation_handles.proofs.Common.{OperationHandle, Derivations, IsOperation, derived_key_bytes, derived_key_refused, refusal, false, refl, subst, sym, true, ◌≡◌}
 use Rattle.operation_handles.proofs.Families.{keeps_put}
 use Rattle.operation_handles.proofs.KeyOutputs.{deriving_with, refused_not_given}
 use Rattle.operation_handles.proofs.Steps.{step_is, step_reply}

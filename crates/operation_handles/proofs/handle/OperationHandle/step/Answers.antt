@@ -1,5 +1,4 @@
-use Rattle.std.proofs.Common.{length, refl, ◌≡◌}
-use Rattle.operation_handles.proofs.Common.{AeadWork, Aeads, After, CipherWork, Ciphers, DerivationWork, Derivations, HashWork, Hashes, MacWork, Macs, aead_step, buffer_after, cipher_step, derivation_step, drawn_from, hash_step, mac_step, model_aead_step, model_cipher_step, model_derivation_step, model_hash_step, model_mac_step, next_bytes}
+use Rattle.operation_handles.proofs.Common.{AeadWork, Aeads, After, CipherWork, Ciphers, DerivationWork, Derivations, HashWork, Hashes, MacWork, Macs, aead_step, buffer_after, cipher_step, derivation_step, drawn_from, hash_step, mac_step, model_aead_step, model_cipher_step, model_derivation_step, model_hash_step, model_mac_step, next_bytes, length, refl, ◌≡◌}
 use Rattle.service_calls.specs.Answered.{AnswersReply}
 use Rattle.operation_handles.proofs.Deriving.{step_key, steps_with}
 use Rattle.operation_handles.proofs.Families.{keeps_put}

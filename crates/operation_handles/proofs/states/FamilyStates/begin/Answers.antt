@@ -1,5 +1,4 @@
-use Rattle.std.proofs.Common.{None, refl, subst, sym, ◌∙◌, ◌≡◌}
-use Rattle.operation_handles.proofs.Common.{AreStates, Derivations, Deriving, FamilyStates, Hashes, Hashing, Inactive, class_rows, derivation_work, first_row, hash_work, plain_reply, set_up_without_key}
+use Rattle.operation_handles.proofs.Common.{AreStates, Derivations, Deriving, FamilyStates, Hashes, Hashing, Inactive, class_rows, derivation_work, first_row, hash_work, plain_reply, set_up_without_key, None, refl, subst, sym, ◌∙◌, ◌≡◌}
 use Rattle.alg_encoding.specs.declared.table.Class.TheVariants as class
 use Rattle.operation_handles.proofs.Deriving.{set_up_has, set_up_may}
 use Rattle.operation_handles.proofs.Families.{keeps_put}

@@ -1,5 +1,4 @@
-use Rattle.std.proofs.Common.{List, Some, false, refl, subst, true, ℕ, ◌≡◌}
-use Rattle.operation_handles.proofs.Common.{Active, Aeads, Alg, Ciphers, FitsUse, Inactive, Macs, Purpose, aead_work, cipher_work, mac_work, used_for}
+use Rattle.operation_handles.proofs.Common.{Active, Aeads, Alg, Ciphers, FitsUse, Inactive, Macs, Purpose, aead_work, cipher_work, mac_work, used_for, List, Some, false, refl, subst, true, ℕ, ◌≡◌}
 use Rattle.operation_handles.proofs.Families.{keeps_put, put}
 use Rattle.operation_handles.proofs.Fresh.{set_up_of}
 use Rattle.operation_handles.proofs.states.FamilyStates.begin_with.Goals as goal
