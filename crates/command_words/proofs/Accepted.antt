@@ -1,9 +1,9 @@
 -- `clap` takes the words that are a command, and finds that command in them.
-use Rattle.std.proofs.Common.{Bool, List, None, Option, Some, [], ap, arith, bytes_eq, codes, cond, false, fold, is_some, option_and_then, option_map, refl, subst, sym, true, ℕ, ◌&&◌, ◌∙◌, ◌∷◌, ◌≡◌}
+use Rattle.std.proofs.Common.{rules, Bool, List, None, Option, Some, [], ap, arith, bytes_eq, codes, cond, false, fold, is_some, option_and_then, option_map, refl, subst, sym, true, ℕ, ◌&&◌, ◌∙◌, ◌∷◌, ◌≡◌}
 use Rattle.command_words.proofs.Common.{App, Generate, Label, Names, Row, Rule, Rules, Run, RunOption, RunOptions, Seed, Shape, Text, Texts, Walk, Workers, asked_of, built, bytes_eq-Decides, command_of, count_of, entered, entered_passes, filled, finished, has_row, idle, is_valid, level_passes, names_of, new_rule, new_shape, none-some, nothing_held, number_to, option_and_then_some, options_in, program, rows_after, run_of, run_options, settle_passes, settled, subcommand_of, takes, texts_in, texts_of, turn_passes, walk, walk_passes, walk_stopped, walked, with_default, with_index}
 use Rattle.clap.specs.Words.{first_of}
 use Rattle.command_words.specs.declared.command.Command.{Command}
-use Rattle.command_words.proofs.Hyphens.{IsBare, AreBare, bare, are_bare, no_number, no_option}
+use Rattle.command_words.proofs.Hyphens.{IsBare, AreBare, bare, are_bare, no_number}
 use Rattle.command_words.proofs.OptionWords.{mapped}
 use Rattle.command_words.proofs.Rows.{option_built, HasValues, texts_are_in}
 use Rattle.command_words.proofs.RunWalk.{run_rules, run_shape, between, Ends, follows}
@@ -35,9 +35,7 @@ no_default option rows = go (has_row (option_built option).id rows)
     go false = refl
 
 no_defaults : (rows : List Row) → fold with_default rows run_rules ≡ rows
-no_defaults rows =
-    ap (λ r. with_default (with_default r (option_built Seed)) (option_built Rules)) (no_default Workers rows)
-    ∙ ap (λ r. with_default r (option_built Rules)) (no_default Seed rows) ∙ no_default Rules rows
+no_defaults rows = search rules
 
 abbrev none_yet : Texts
 none_yet = record { workers = None; seed = None; rules = None }
@@ -67,11 +65,7 @@ record TakesCount (text : Text) : Type 0 where
 
 takes_count : (text : Text) → IsBare text → TakesCount text
 unfolding walked walk_passes
-takes_count text is =
-    let word = no_option text is in record {
-      passes = rw (word.dashes, word.long, word.short) refl;
-      finds = rw (word.dashes, word.long, word.short) refl;
-    }
+takes_count text is = search rules
 
 -- the first word
 

@@ -1,6 +1,5 @@
 -- The command that matches ask for, as their getters tell it.
-use Rattle.std.proofs.Common.{List, None, Option, Some, ap, ap₂, codes, option_and_then, option_map, sym, ◌∙◌, ◌≡◌}
-use Rattle.command_words.proofs.Common.{Generate, Label, Row, Text, asked_of, first_value, first_value-rows, none-some, number_to, rows_of, same_Some, subcommand_name_of, subcommand_rows_of}
+use Rattle.command_words.proofs.Common.{Generate, Label, Row, Text, asked_of, first_value, first_value-rows, none-some, number_to, rows_of, same_Some, subcommand_name_of, subcommand_rows_of, List, None, Option, Some, ap, ap₂, codes, option_and_then, option_map, sym, ◌∙◌, ◌≡◌}
 use Rattle.clap.specs.declared.parser.matches.ArgMatches.{ArgMatches}
 use Rattle.clap.specs.declared.parser.matches.Found.{Found}
 

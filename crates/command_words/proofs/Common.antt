@@ -35,3 +35,4 @@ pub use Rattle.std.specs.Option.{option_or}
 pub use Rattle.std.proofs.lemmas.Bool.{and_left, and_right, false_from_ne_true, not-false}
 pub use Rattle.std.specs.Fmt.{decimal}
 pub use Rattle.std.specs.Str.{IsUtf8}
+pub use Rattle.std.proofs.Common.{Bool, List, None, Option, Some, [], ap, append-nil, ap₂, arith, bytes_eq, codes, drop, false, fold, is_some, length, map, not, option_and_then, option_map, refl, rules, subst, sym, true, ℕ, ◌∙◌, ◌∷◌, ◌≡◌}

@@ -1,6 +1,6 @@
 -- Good values don't begin with a hyphen.
-use Rattle.std.proofs.Common.{Bool, Err, List, None, Option, Some, [], ap, arith, bytes_eq, cond, false, ne_eqb, get_or, option_and_then, refl, replicate, sym, true, ℕ, ◌<◌, ◌==◌, ◌^◌, ◌∙◌, ◌∷◌, ◌≡◌}
-use Rattle.command_words.proofs.Common.{bytes_eq-Decides, decimal, false_from_ne_true, first_decimal, Label, label_named, label_word, labels_in, labels_named, long_of, long_of_rest, none-some, number_to, onto_first, option_and_then_some, Rules, run_options, RunOption, RunOptions, Seed, seed_in, short_of, short_of_rest, slice_split, strip_byte, Texts, value_or, Workers}
+use Rattle.std.proofs.Common.{rules, Bool, Err, List, None, Option, Some, [], ap, arith, bytes_eq, cond, false, ne_eqb, get_or, refl, replicate, sym, true, ℕ, ◌<◌, ◌==◌, ◌^◌, ◌∙◌, ◌∷◌, ◌≡◌}
+use Rattle.command_words.proofs.Common.{decimal, first_decimal, Label, label_named, label_word, labels_in, labels_named, long_of, none-some, number_to, onto_first, option_and_then_some, Rules, run_options, RunOption, RunOptions, Seed, seed_in, short_of, slice_split, strip_byte, Texts, value_or, Workers}
 use Rattle.std.specs.Result.{result_ok}
 use Rattle.hex.specs.Hex.{decode_pairs}
 use Rattle.hex.specs.declared.error.FromHexError.TheVariants.{OddLength, InvalidStringLength}
@@ -85,8 +85,4 @@ pub record IsNoOption (word : List ℕ) : Type 0 where
   pub short : short_of word ≡ None
 
 pub no_option : (word : List ℕ) → IsBare word → IsNoOption word
-no_option word bare = record {
-  dashes = false_from_ne_true _ (λ t. none-some (45 ∷ []) (sym bare ∙ ap (strip_byte 45) ((bytes_eq-Decides word (45 ∷ 45 ∷ [])).0 t)));
-  long = ap (λ o. option_and_then long_of_rest (option_and_then (strip_byte 45) o)) bare;
-  short = ap (option_and_then short_of_rest) bare;
-}
+no_option word bare = search rules

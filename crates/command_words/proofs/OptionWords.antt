@@ -1,7 +1,7 @@
 -- What is an option's word to the grammar is one to `clap`.
 
-use Rattle.std.proofs.Common.{Bool, List, None, Option, Some, [], ap, arith, bytes_eq, cond, drop, false, find, option_map, refl, subst, suc, sym, take, true, ℕ, ◌+◌, ◌∙◌, ◌∷◌, ◌≡◌}
-use Rattle.command_words.proofs.Common.{after_first, all_options, before_first, bytes_eq-Decides, false_from_ne_true, is_equals, list_any, long_of, long_of_rest, none-some, option_id, option_in, option_name, option_named, position_or_len, Rules, RunOption, same_Some, Seed, Workers}
+use Rattle.std.proofs.Common.{rules, Bool, List, None, Option, Some, [], ap, bytes_eq, cond, false, find, option_map, refl, subst, sym, true, ℕ, ◌∙◌, ◌∷◌, ◌≡◌}
+use Rattle.command_words.proofs.Common.{after_first, all_options, before_first, bytes_eq-Decides, false_from_ne_true, is_equals, list_any, long_of, long_of_rest, none-some, option_id, option_in, option_name, option_named, Rules, RunOption, same_Some, Seed, Workers}
 
 found_passes : {X : Type 0} (p : X → Bool) (xs : List X) (x : X) → find p xs ≡ Some x → p x ≡ true
 found_passes p [] x e = absurd (none-some x e)
@@ -15,9 +15,7 @@ named : (name : List ℕ) (option : RunOption) → option_named name ≡ Some op
 named name option e = (bytes_eq-Decides (option_name option) name).0 (found_passes (λ o. bytes_eq (option_name o) name) all_options option e)
 
 front : (byte : ℕ) (rest : List ℕ) → is_equals byte ≡ false → before_first is_equals (byte ∷ rest) ≡ byte ∷ before_first is_equals rest
-front byte rest t =
-    let next : position_or_len is_equals (byte ∷ rest) ≡ suc (position_or_len is_equals rest) = rw t (omega arith) in
-    ap (λ k. take k (byte ∷ rest)) next
+front byte rest t = search rules
 
 -- a word whose part before `=` begins with a byte
 record Behind (byte : ℕ) (name word : List ℕ) : Type 0 where
@@ -51,9 +49,7 @@ with_value option [] e t = absurd (is_named option (sym e))
 with_value option (c ∷ cs) e t = rw (e, t) refl
 
 after_hyphens : (rest : List ℕ) → after_first is_equals rest ≡ after_first is_equals (45 ∷ 45 ∷ rest)
-after_hyphens rest =
-    let next : position_or_len is_equals (45 ∷ 45 ∷ rest) + 1 ≡ suc (suc (position_or_len is_equals rest + 1)) = omega arith in
-    sym (ap (λ k. drop k (45 ∷ 45 ∷ rest)) next)
+after_hyphens rest = search rules
 
 long_word : (option : RunOption) (word : List ℕ) → before_first is_equals word ≡ option_name option → list_any is_equals word ≡ true →
     long_of word ≡ Some (option_id option, Some (after_first is_equals word))

@@ -1,7 +1,6 @@
 -- Whether a text is labels, word by word.
 
-use Rattle.std.proofs.Common.{Bool, List, None, Option, Some, [], ap, false, is_some, not, refl, sym, true, ◌∙◌, ◌≡◌}
-use Rattle.command_words.proofs.Common.{Label, first_of}
+use Rattle.command_words.proofs.Common.{Label, first_of, Bool, List, None, Option, Some, [], ap, false, is_some, not, refl, sym, true, ◌∙◌, ◌≡◌}
 
 both : (word : Option Label) (more : Option (List Label)) → is_some word ≡ true → is_some (first_of word more) ≡ is_some more
 both None more e = absurd (cc)

@@ -1,9 +1,9 @@
 -- `clap` takes the words of a run that the grammar takes, and keeps their values.
-use Rattle.std.proofs.Common.{Bool, List, None, Option, Some, [], bytes_eq, codes, false, fold, option_and_then, refl, subst, sym, true, ℕ, ◌∙◌, ◌∷◌, ◌≡◌}
-use Rattle.command_words.proofs.Common.{Held, Row, Rule, Rules, RunOption, Seed, Shape, Texts, Waiting, Walk, Workers, after_words, arg_by_id, arg_by_long, idle, if_new, is_of, new_shape, none-some, option_id, option_in, reacted, same_Some, settle_passes, settled, turn_passes, use_passes, walk_passes, walked, with_option}
+use Rattle.std.proofs.Common.{rules}
+use Rattle.command_words.proofs.Common.{Held, Row, Rule, Rules, RunOption, Seed, Shape, Texts, Waiting, Walk, Workers, after_words, arg_by_id, arg_by_long, idle, if_new, is_of, new_shape, none-some, option_id, option_in, reacted, same_Some, settle_passes, settled, turn_passes, use_passes, walk_passes, walked, with_option, Bool, List, None, Option, Some, [], bytes_eq, codes, false, fold, option_and_then, refl, subst, sym, true, ℕ, ◌∙◌, ◌∷◌, ◌≡◌}
 use Rattle.clap.specs.Walk.{option as for_option}
 use Rattle.command_words.specs.Reading.{settled_texts as settled_state}
-use Rattle.command_words.proofs.Hyphens.{IsBare, AreBare, no_option}
+use Rattle.command_words.proofs.Hyphens.{IsBare, AreBare}
 use Rattle.command_words.proofs.OptionWords.{long_of_option, not_dashes}
 use Rattle.command_words.proofs.Rows.{option_built, HasValues, no_row, has_next, same_id}
 use Rattle.command_words.proofs.Settings.{text_at, put, put_at, same_option, is_of_itself, with_is}
@@ -65,11 +65,7 @@ value_turn : (rows : List Row) (skip : ℕ) (value : List ℕ) (option : RunOpti
     Turns (between (record { rows = rows; pending = Some (option_id option, []); skip = skip }) (waiting_for (Some option))) value
     (between (record { rows = rows; pending = Some (option_id option, value ∷ []); skip = skip }) idle)
 unfolding walked
-value_turn rows skip value option bare =
-    let word = no_option value bare in record {
-      passes = rw (word.dashes, word.long, word.short) refl;
-      next = rw (word.dashes, word.long, word.short, by_id option, itself option) refl;
-    }
+value_turn rows skip value option bare = search rules
 
 -- the end of a run's words: the value that is left passes, and the rows have the values
 pub record Ends (texts : Texts) (held : Held) : Type 0 where
@@ -88,11 +84,7 @@ pub record Follows (texts final : Texts) (words : List (List ℕ)) (walk : Walk)
 
 after_turn : (texts next final : Texts) (word : List ℕ) (words : List (List ℕ)) (before after : Walk) → Turns before word after → Stay texts next → Follows next final words after → Follows texts final (word ∷ words) before
 unfolding walk_passes
-after_turn texts next final word words before after turn keeps follows = record {
-  passes = rw (turn.passes, turn.next) follows.passes;
-  ends = subst (λ w. Ends final (fold (walked run_rules []) w words).held) (sym turn.next) follows.ends;
-  stay = λ option value e. follows.stay option value (keeps option value e);
-}
+after_turn texts next final word words before after turn keeps follows = search rules
 
 -- a value passes where its option has none yet
 uses : (option : RunOption) (texts : Texts) (rows : List Row) (value : List ℕ) → HasValues texts rows → text_at texts option ≡ None → use_passes false (option_built option) (value ∷ []) rows ≡ true

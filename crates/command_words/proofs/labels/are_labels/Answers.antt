@@ -1,5 +1,4 @@
-use Rattle.std.proofs.Common.{arith, rules, sym}
-use Rattle.command_words.proofs.Common.{first_word, label_named, labels_in, last_word, split_once_first}
+use Rattle.command_words.proofs.Common.{first_word, label_named, labels_in, last_word, split_once_first, arith, rules, sym}
 use Rattle.command_words.proofs.Parts.{is_label, is_no_label, at_last}
 use Rattle.command_words.proofs.labels.are_labels.Goals as goal
 

@@ -1,5 +1,4 @@
-use Rattle.std.proofs.Common.{is_some, length, ◌≡◌}
-use Rattle.command_words.proofs.Common.{IsUtf8, labels_in}
+use Rattle.command_words.proofs.Common.{IsUtf8, labels_in, is_some, length, ◌≡◌}
 use Rattle.command_words.proofs.labels.are_labels.Given as goal
 
 abbrev pub invariant-loop-word : goal.invariant-loop-word

@@ -1,5 +1,4 @@
-use Rattle.std.proofs.Common.{Some, [], ap, append-nil, arith, rules, sym, ◌∙◌}
-use Rattle.command_words.proofs.Common.{behind, first_word, labels_in, last_word, read_none, read_on, split_once_first}
+use Rattle.command_words.proofs.Common.{behind, first_word, labels_in, last_word, read_none, read_on, split_once_first, Some, [], ap, append-nil, arith, rules, sym, ◌∙◌}
 use Rattle.command_words.proofs.labels.read_labels.Goals as goal
 
 pub returns-in_default-labelled : goal.returns-in_default-labelled

@@ -1,5 +1,4 @@
-use Rattle.std.proofs.Common.{length, ◌≡◌}
-use Rattle.command_words.proofs.Common.{behind, IsUtf8, labels_in}
+use Rattle.command_words.proofs.Common.{behind, IsUtf8, labels_in, length, ◌≡◌}
 use Rattle.command_words.proofs.labels.read_labels.Given as goal
 
 abbrev pub invariant-loop-word : goal.invariant-loop-word

@@ -1,5 +1,4 @@
-use Rattle.std.proofs.Common.{ap, arith, map, refl, sym, ◌∙◌}
-use Rattle.command_words.proofs.Common.{state, texts}
+use Rattle.command_words.proofs.Common.{state, texts, ap, arith, map, refl, sym, ◌∙◌}
 use Rattle.std.specs.Option.{option_map}
 use Rattle.command_words.proofs.Settings.{reads_all, goes_on, stops, ends}
 use Rattle.command_words.proofs.options.read_options.Goals as goal

@@ -1,5 +1,4 @@
-use Rattle.std.proofs.Common.{None, drop, map, ◌≡◌}
-use Rattle.command_words.proofs.Common.{after_words, state}
+use Rattle.command_words.proofs.Common.{after_words, state, None, drop, map, ◌≡◌}
 use Rattle.command_words.proofs.options.read_options.Given as goal
 
 abbrev pub invariant-loop-word : goal.invariant-loop-word

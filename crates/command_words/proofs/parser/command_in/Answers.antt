@@ -1,5 +1,4 @@
-use Rattle.std.proofs.Common.{codes, ◌∙◌}
-use Rattle.command_words.proofs.Common.{found_of, rows_of}
+use Rattle.command_words.proofs.Common.{found_of, rows_of, codes, ◌∙◌}
 use Rattle.command_words.proofs.Asked.{Met, asks}
 use Rattle.command_words.proofs.parser.command_in.Goals as goal
 

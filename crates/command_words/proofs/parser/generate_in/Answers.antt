@@ -1,5 +1,4 @@
-use Rattle.std.proofs.Common.{None, Some, ap, option_map, ◌∙◌}
-use Rattle.command_words.proofs.Common.{Generate, found_of}
+use Rattle.command_words.proofs.Common.{Generate, found_of, None, Some, ap, option_map, ◌∙◌}
 use Rattle.command_words.proofs.Asked.{asks_count}
 use Rattle.command_words.proofs.parser.generate_in.Goals as goal
 

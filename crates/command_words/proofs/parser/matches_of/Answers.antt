@@ -1,5 +1,4 @@
-use Rattle.std.proofs.Common.{ap, map, rules, ◌∙◌, ◌≡◌}
-use Rattle.command_words.proofs.Common.{App, IfErr-weaker, IfOk-weaker, app_of, asked_of, is_simple, program, subcommand_of, takes}
+use Rattle.command_words.proofs.Common.{App, IfErr-weaker, IfOk-weaker, app_of, asked_of, is_simple, program, subcommand_of, takes, ap, map, rules, ◌∙◌, ◌≡◌}
 use Rattle.command_words.proofs.Accepted.{accepted}
 use Rattle.command_words.proofs.parser.matches_of.Goals as goal
 

@@ -1,5 +1,4 @@
-use Rattle.std.proofs.Common.{Some, ap, ◌∙◌}
-use Rattle.command_words.proofs.Common.{Rule, rule_of}
+use Rattle.command_words.proofs.Common.{Rule, rule_of, Some, ap, ◌∙◌}
 use Rattle.clap.specs.declared.builder.arg.Arg.{Arg}
 use Rattle.command_words.proofs.parser.option_arg.Goals as goal
 

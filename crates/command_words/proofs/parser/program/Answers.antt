@@ -1,5 +1,4 @@
-use Rattle.std.proofs.Common.{ap, ap₂, codes, rules, true, ◌∙◌, ◌≡◌}
-use Rattle.command_words.proofs.Common.{App, IfOk-weaker, app_of, app_of_fields, bare_command, generate_command, new_rule, on_top, option_rule, rule_of, run_command, with_rule, with_subcommand}
+use Rattle.command_words.proofs.Common.{App, IfOk-weaker, app_of, app_of_fields, bare_command, generate_command, new_rule, on_top, option_rule, rule_of, run_command, with_rule, with_subcommand, ap, ap₂, codes, rules, true, ◌∙◌, ◌≡◌}
 use Rattle.command_words.proofs.parser.program.Goals as goal
 
 pub returns : goal.returns

@@ -1,5 +1,4 @@
-use Rattle.std.proofs.Common.{◌∙◌}
-use Rattle.command_words.proofs.Common.{Rules, Seed, Workers, first_value-rows, found_of, option_id}
+use Rattle.command_words.proofs.Common.{Rules, Seed, Workers, first_value-rows, found_of, option_id, ◌∙◌}
 use Rattle.command_words.proofs.parser.settings_in.Goals as goal
 
 pub returns : goal.returns

@@ -1,5 +1,4 @@
-use Rattle.std.proofs.Common.{drop, map, ◌≡◌}
-use Rattle.command_words.proofs.Common.{after_rules}
+use Rattle.command_words.proofs.Common.{after_rules, drop, map, ◌≡◌}
 use Rattle.command_words.proofs.rule_list.RuleBookAdmission.apply.Given as goal
 
 abbrev pub invariant-loop-rule : goal.invariant-loop-rule

@@ -1,5 +1,4 @@
-use Rattle.std.proofs.Common.{drop, map, ◌≡◌}
-use Rattle.command_words.proofs.Common.{label_named}
+use Rattle.command_words.proofs.Common.{label_named, drop, map, ◌≡◌}
 use Rattle.command_words.proofs.rule_list.RuleBookRuleList.labelled.Given as goal
 
 abbrev pub invariant-loop-rule : goal.invariant-loop-rule

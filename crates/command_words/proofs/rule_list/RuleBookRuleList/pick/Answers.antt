@@ -1,5 +1,4 @@
-use Rattle.std.proofs.Common.{ap, map, rules, ◌∙◌}
-use Rattle.command_words.proofs.Common.{is_one_of}
+use Rattle.command_words.proofs.Common.{is_one_of, ap, map, rules, ◌∙◌}
 use Rattle.std.proofs.lemmas.Fn.{filter_same}
 use Rattle.admission.proofs.Lists.{map-filter}
 use Rattle.command_words.proofs.rule_list.RuleBookRuleList.pick.Goals as goal
