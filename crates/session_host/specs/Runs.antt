@@ -3,7 +3,6 @@ use Rattle.std.specs.Prelude.{◌≡◌, ◌≤◌, ℕ, true, List, length, map
 use Rattle.atomic_table.specs.Seated.{TableId}
 use Rattle.psa_status.specs.Causes.{Rose}
 use Rattle.policy_rules.specs.declared.narrowing.Label.{Label}
-use Rattle.key_cells.specs.declared.reading.OpenFault.{OpenFault}
 use Rattle.store_model.specs.Prelude.{Service, Entry, IsSoundStore}
 use Rattle.store_core.specs.declared.store.Opened.{Opened}
 use Rattle.store_core.specs.Prelude.{FindsKeysOf, opening_of}

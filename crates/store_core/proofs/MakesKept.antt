@@ -1,5 +1,5 @@
 -- A ranked turn that creates a key of the file.
-use Rattle.store_core.proofs.Common.{[], AdmissionGhosts, Agrees, ap, AreHoldings, arith, Attributes, Bool, bytes_of, CellState, cond, counted, Course, created, DevicesGhosts, DiskGhosts, Doubt, doubt_after, doubt_by, doubt_unmade, durable_keys, Entry, false, false≢true, FaultMark, FitsRecord, full_slot, has_secure_element, HasNoKey, is_opaque, is_persistent_key, is_some, is_volatile, IsAboutToCreate, IsEntry, IsFirstWithoutKey, IsFull, IsKeyOf, IsMaking, IsMaterial, IsPut, IsSince, IsSure, IsThereOrNew, kept, Key, key_changed, KeyFile, Keys, KeySlots, last_counts, Leads, length, List, map_get, MayBeKept, Model, new_id, new_key, NoKey, None, not, Open, Opening, Option, outcome_of, Pairs, Plain, Puts, recorded, refl, replay, Rose, serve, Service, set, settled_states, SlotHasKey, Some, StandsFor, StandsForKeys, Storage, Store, Stored, stored, subst, sym, Told, true, Writing, ℕ, ◌++◌, ◌+◌, ◌<◌, ◌^◌, ◌∙◌, ◌∷◌, ◌≡◌, ◌≤◌, cell_count}
+use Rattle.store_core.proofs.Common.{[], AdmissionGhosts, Agrees, ap, AreHoldings, arith, Attributes, Bool, bytes_of, CellState, cond, counted, Course, created, DevicesGhosts, DiskGhosts, Doubt, doubt_after, doubt_by, doubt_unmade, durable_keys, Entry, false, false≢true, FaultMark, FitsRecord, full_slot, has_secure_element, HasNoKey, is_opaque, is_persistent_key, is_some, is_volatile, IsAboutToCreate, IsEntry, IsFirstWithoutKey, IsFull, IsKeyOf, IsMaking, IsMaterial, IsPut, IsSince, IsSure, IsThereOrNew, kept, Key, key_changed, KeyFile, Keys, KeySlots, last_counts, Leads, length, List, map_get, MayBeKept, Model, new_id, new_key, NoKey, None, not, Open, Opening, Option, outcome_of, Pairs, Plain, Puts, recorded, refl, replay, Rose, serve, Service, set, settled_states, SlotHasKey, Some, StandsFor, StandsForKeys, Storage, Store, Stored, stored, subst, sym, Told, true, Writing, ℕ, ◌++◌, ◌+◌, ◌∙◌, ◌∷◌, ◌≡◌, ◌≤◌, cell_count}
 use Rattle.key_cells.specs.Contents as contents
 use Rattle.persistent_keys.specs.declared.file.MakeFault.TheVariants.{Disk}
 use Rattle.store_core.proofs.Holding.{same_device}
