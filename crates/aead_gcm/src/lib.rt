@@ -1,4 +1,10 @@
 //! GCM (SP 800-38D) over AES, on a whole text in place.
+//!
+//! What is proved:
+//!
+//! - `seal`, `open`, `give_tag`, `is_tag`, `masked`: `seal` and `open` are SP 800-38D; `open` is false exactly where the
+//!   tag differs, and then the text is zeros. The whole tag is zeros once a tag is given or compared, and its mask once
+//!   the tag is made.
 #![tactic(auto)]
 
 ghost use Rattle.std.specs.Prelude.{◌≡◌, ℕ, ◌^◌, ◌<◌, ◌≤◌, length, take, replicate, IsTrue, ◌↔◌, MatchBool};
@@ -68,8 +74,18 @@ fn whole_tag(key: &AesKey, subkey: u128, first: u128, ad: &[u8], text: &[u8]) ->
     ensures { number_block result ≡ xor_bytes (aes_encrypt key.now (number_block first))
         (number_block (ghash_of subkey ad.now text.now)) }
 {
-    let hash = hashing::ghash_of(subkey, ad, text);
-    key.encrypt_number(first) ^ hash
+    let mut mask = key.encrypt_number(first);
+    masked(hashing::ghash_of(subkey, ad, text), &mut mask)
+}
+
+// A hash under a mask, which is then zeros.
+fn masked(hash: u128, mask: &mut u128) -> u128
+    ensures value { number_block result ≡ xor_bytes (number_block mask.old) (number_block hash) }
+    ensures cleared { mask.new ≡ 0 }
+{
+    let tag = *mask ^ hash;
+    clear(mask);
+    tag
 }
 
 // Overwrites a tag by the front of the whole one, which is then zeros.

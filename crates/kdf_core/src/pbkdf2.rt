@@ -35,6 +35,16 @@ fn first_turn(key: &HmacKey, salt: &[u8], n: u32, turn: &mut [u8; 64]) -> usize
     state.finish(turn)
 }
 
+// Moves a code to the front of `turn`, whose rest stays. Where it stood are zeros.
+fn move_to_front(code: &mut [u8; 32], turn: &mut [u8; 64])
+    ensures front { take 32 turn.new ≡ code.old }
+    ensures rest { drop 32 turn.new ≡ drop 32 turn.old }
+    ensures wiped { code.new ≡ replicate 32 0 }
+{
+    turn[..32].copy_from_slice(code);
+    code.fill(0);
+}
+
 // Writes the next turn under HMAC-SHA-256 over the front of `turn`, whose rest stays, and answers its length.
 fn short_turn(key: &ShortMessageKey, turn: &mut [u8; 64]) -> usize
     ensures length { result ≡ 32 }
@@ -42,8 +52,8 @@ fn short_turn(key: &ShortMessageKey, turn: &mut [u8; 64]) -> usize
         → take 32 turn.new ≡ hmac (hash_of Sha256) (block_length Sha256) k (take 32 turn.old) }
     ensures rest { drop 32 turn.new ≡ drop 32 turn.old }
 {
-    let front = turn.first_chunk_mut::<32>().unwrap();
-    *front = key.code(front);
+    let mut code = key.code(turn.first_chunk::<32>().unwrap());
+    move_to_front(&mut code, turn);
     32
 }
 
