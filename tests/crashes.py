@@ -4,15 +4,16 @@
     tests/crashes.py [PROGRAM [IMAGES [FIRST]]]    at least IMAGES (1,000), of scripts by numbers at random from FIRST (1) on
 
 The program is ./psa where none is named; it has to be one process, as the proved program is. A script creates, copies,
-purges and destroys persistent keys by one worker, on the store that the script before it left, after bytes were put behind the
-closed gates of some cells, as a creation or a destruction that was interrupted leaves them. Its run is traced: strace tells each write of the file, with its bytes, and each sync. At each of these
-calls a crash may leave none of the writes since the last sync, all of them, or each alone; and of the last one its first half,
-or any bytes in its place. Each such image is put into a file, and a run on that has to tell the keys after the calls that were
-done by then or, within a call that changes the file, those after that one. It leaves exactly the cells of these keys, and zeros.
-First a store is made so, each image of which is none yet, or has no key.
+purges and destroys persistent keys by one worker, on the store that the script before it left, after bytes were put behind
+the closed gates of some cells, as a creation or a destruction that was interrupted leaves them. Its run is traced: strace
+tells each write of the file, with its bytes, and each sync. At each of these calls a crash may leave none of the writes
+since the last sync, all of them, or each alone; and of the last one its first half, or any bytes in its place. Each such
+image is put into a file, and a run on that has to tell the keys after the calls that were done by then or, within a call
+that changes the file, those after that one. It leaves exactly the cells of these keys, and zeros. First a store is made so,
+each image of which is none yet, or has no key.
 
-It prints how many scripts, calls of the file and images there were, each image once. The status is 1 where keys are others. Where there is no
-strace nothing is tried.
+It prints how many scripts, calls of the file and images there were, each image once. The status is 1 where keys are others.
+Where there is no strace nothing is tried.
 """
 
 import itertools

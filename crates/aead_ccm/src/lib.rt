@@ -1,4 +1,9 @@
 //! CCM (SP 800-38C) over AES, on a whole payload in place, with the formats of its appendix A.
+//!
+//! What is proved:
+//!
+//! - `seal`, `open`, `give_tag`, `is_tag`: `seal` and `open` are SP 800-38C; `open` is false exactly where the tag
+//!   differs, and then the text is zeros. The MAC and its mask are zeros once a tag is given or compared.
 #![tactic(auto)]
 
 ghost use Rattle.std.specs.Prelude.{◌≡◌, ◌^◌, ◌<◌, ◌≤◌, length, replicate, take, bit_xor, IsTrue, ◌↔◌, MatchBool};

@@ -1,4 +1,9 @@
 //! An AEAD in several parts, with GCM or CCM over AES: however a text is cut, its ciphertext and its tag are the same.
+//!
+//! What is proved:
+//!
+//! - the setups of `AeadState`, and its steps by `Family`: each is the model's change of one operation: the output that is
+//!   due and no more, each refusal in its order, and what it leaves; after `wipe` keys and buffers are zeros.
 #![tactic(auto)]
 
 ghost use Rattle.store_model.specs.Prelude.{aead_due, with_payload};

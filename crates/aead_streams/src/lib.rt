@@ -1,5 +1,12 @@
 //! GCM (SP 800-38D) and CCM (SP 800-38C) over AES on associated data and a text that come in pieces, however each is cut; the key
 //! stream of a block cipher that counts, as these and CTR use it; and the bytes of a block that isn't full.
+//!
+//! What is proved:
+//!
+//! - `GcmState`, `CcmState`; `KeyStream::xor`; `BlockBuffer::put`, `take`: a running GCM and CCM: text and tag are the
+//!   standards' of all that was given, however it was cut (of CCM within the declared lengths, and the tag once they are
+//!   reached). The next bytes of the key stream of CTR, GCM and CCM, in any pieces; the bytes of a block that isn't full;
+//!   what `wipe` leaves, and what is let go (`release`): zeros.
 #![tactic(auto)]
 
 pub use block_buffer::BlockBuffer;

@@ -1,4 +1,9 @@
 //! AES (FIPS 197): one block of 16 bytes under a key of 16, 24 or 32 bytes.
+//!
+//! What is proved:
+//!
+//! - `AesKey`: it enciphers and deciphers as FIPS 197 says; after `wipe`, and where it is let go (`release`), its
+//!   schedules are zeros.
 #![tactic(auto)]
 
 ghost use Rattle.std.specs.Prelude.{◌≡◌, ℕ, List, [], MatchOption};

@@ -1,5 +1,10 @@
 //! Blocks of 16 bytes, as numbers whose highest byte is the first one, and pieces of a text that are no
 //! longer than a block.
+//!
+//! What is proved:
+//!
+//! - `number_of`, `set_number`, `xor_into` and their others: a block of 16 bytes as a number, and parts of blocks read,
+//!   written, compared and xored.
 #![tactic(auto)]
 
 ghost use Rattle.std.specs.Prelude.{◌≡◌, ◌+◌, ◌-◌, ◌≤◌, ◌++◌, ◌↔◌, IsTrue, length, take, drop, replicate};

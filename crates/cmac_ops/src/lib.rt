@@ -1,4 +1,9 @@
 //! CMAC (SP 800-38B) over AES.
+//!
+//! What is proved:
+//!
+//! - `cmac`, `CmacState`: SP 800-38B, of whole messages and in any pieces; what `wipe` leaves, and what is let go
+//!   (`release`): chains of zeros.
 #![tactic(auto)]
 
 ghost use Rattle.std.specs.Prelude.{◌≡◌};

@@ -1,4 +1,10 @@
 //! The definitions of the block cipher AES and of what is built on it, and their laws.
+//!
+//! What is proved:
+//!
+//! - its laws (docs/STANDARDS.md lists them): laws of the standards' definitions: decryption undoes encryption (AES, ECB,
+//!   CBC, CTR), unpadding undoes padding, any cutting gives one key stream, GHASH's product is linear. The standards'
+//!   examples are lemmas that the checker computes (`proofs/*Vectors`).
 #![tactic(auto)]
 
 ghost use Rattle.crypto_specs.specs.Laws.{DecryptionUndoesEncryption, EncryptionUndoesDecryption, FirstFactorIsLinear, SecondFactorIsLinear, EcbDecryptionUndoesEncryption, CbcDecryptionUndoesEncryption, CtrUndoesItself, AnyCuttingIsTheSame, CcmTextUndoesItself, GcmTextUndoesItself, PaddingFillsBlocks, UnpaddingUndoesPadding, OnlyPaddedTextsUnpad, AbsentSaltIsEmptyKey};

@@ -1,4 +1,10 @@
 //! The derivation of bytes and keys in several parts, by HKDF (RFC 5869) and PBKDF2 (RFC 8018).
+//!
+//! What is proved:
+//!
+//! - the setups of `DerivationState`, and its steps by `Family`: each is the model's change of one operation: the output
+//!   that is due and no more, each refusal in its order (as that of a cost of PBKDF2 above 100,000), and what it leaves;
+//!   after `wipe` keys and buffers are zeros, and hashers are those of the empty message.
 #![tactic(auto)]
 
 ghost use Rattle.std.specs.Prelude.{◌≡◌, ◌≤◌, ◌+◌, ◌/◌, false, min, IfOk, length};

@@ -1,5 +1,9 @@
 //! GHASH (SP 800-38D, sections 6.3 and 6.4). A block is a number whose highest bit is its first one,
 //! which is the coefficient of x^0.
+//!
+//! What is proved:
+//!
+//! - `Ghash`: GHASH is SP 800-38D; a `Ghash` that is let go is zeros (`release`).
 #![tactic(auto)]
 
 ghost use Rattle.std.specs.Prelude.{◌≡◌, bit_xor, replicate};

@@ -1,4 +1,9 @@
 //! The hash functions SHA-224, SHA-256, SHA-384 and SHA-512 (FIPS 180-4), chosen by value.
+//!
+//! What is proved:
+//!
+//! - `hash`, `HashState`: FIPS 180-4 (as the kit's `sha2` states it), of whole messages and in any pieces; what `wipe`
+//!   leaves, and what is let go (`release`): hashers of the empty message.
 #![tactic(auto)]
 
 ghost use Rattle.std.specs.Prelude.{◌≡◌, ◌<◌, ◌⊎◌, ◌↔◌, IsNone};

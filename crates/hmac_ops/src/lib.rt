@@ -1,4 +1,10 @@
 //! HMAC (RFC 2104) over SHA-224, SHA-256, SHA-384 and SHA-512, and SHA-256 of a block and 32 bytes after it.
+//!
+//! What is proved:
+//!
+//! - `hmac`, `HmacKey`, `HmacState`, `ShortMessageKey::code`; `FirstBlock::digest_with`: RFC 2104, of whole messages and
+//!   in any pieces, and of 32 bytes under HMAC-SHA-256; the digest of a block and 32 bytes after it is SHA-256's. After
+//!   `wipe`, and where they are let go, hashers are those of the empty message, and hash values zeros.
 #![tactic(auto)]
 
 ghost use Rattle.std.specs.Prelude.{◌≡◌, drop, take};

@@ -1,4 +1,9 @@
 //! Key wrap (RFC 3394): its definitions, which stand in `specs/`, and laws of them. It has no function that computes.
+//!
+//! What is proved:
+//!
+//! - `unwrapping_undoes_wrapping`, `wrapping_is_one_to_one`, `only_wraps_unwrap`: laws of RFC 3394: unwrapping undoes
+//!   wrapping, wrapping is one to one, and only wraps unwrap.
 #![tactic(auto)]
 
 ghost use Rattle.key_wrap.specs.Laws.{OnlyWrapsUnwrap, UnwrappingUndoesWrapping, WrappingIsOneToOne};

@@ -1,4 +1,10 @@
 //! The generator: lines that a run makes for itself, and the summary of their replies.
+//!
+//! What is proved:
+//!
+//! - `generated_lines`, `write_summary`, `orders_answer_alike`: the generator's lines, and the summary of replies that are
+//!   kept without their ranks. Every order that keeps each session's own has the same replies but for the ranks, and the
+//!   same summary, from every start without a key 0, where no device failed.
 #![tactic(auto)]
 
 mod generator;

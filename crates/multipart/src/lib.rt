@@ -1,4 +1,11 @@
 //! Operations in several parts, as all families have them: phases, the one state and its step, and how bytes are given and compared.
+//!
+//! What is proved:
+//!
+//! - `Family`, `compute`, `drawn`, `OperationState`: every family of operations meets `Family`: a step is the model's, by
+//!   its value. `compute`, `drawn`: a step by whether the operation's key is there, and the random bytes that it takes.
+//!   `OperationState`: a step of what any family runs is one of its operation; what a refusal, a finish, a lost key and a
+//!   wipe leave. Bytes that are given or compared, and zeros where they had been computed.
 #![tactic(auto)]
 
 ghost use Rattle.std.specs.Prelude.{◌≡◌, if◌then◌else◌, IfOk, IfErr};

@@ -1,4 +1,11 @@
 //! The program of the key store: it answers a script of calls by one reply line a call.
+//!
+//! What is proved:
+//!
+//! - `End::status`; `store_file`, `EndsUnopened`; what `without_keys` and `with_element` require: the program's status is
+//!   its end's: that of the run, or 6 for `NotOpened`. Where `store_file` gives no file, the file is refused, or the words
+//!   are no command (`Usage`), or are one and memory ran out; its secure element has no key at first, and each of its
+//!   rules stands alone under its label.
 #![tactic(auto)]
 
 mod opening;

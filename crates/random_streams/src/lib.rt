@@ -1,4 +1,9 @@
 //! Random bytes for several callers from one seed: the words of ChaCha20, one stream a caller.
+//!
+//! What is proved:
+//!
+//! - `Stream::fill`, `go_back`: `fill` gives the caller's next words of ChaCha20; words that `go_back` gives back are
+//!   drawn again.
 #![tactic(auto)]
 
 ghost use Rattle.std.specs.Prelude.{◌≡◌, ◌+◌, ◌≤◌, length};

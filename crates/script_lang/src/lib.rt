@@ -1,4 +1,11 @@
 //! The script language: the lines that sessions' calls are written in, and the text of their replies.
+//!
+//! What is proved:
+//!
+//! - `read_script`, `script_grammar`, `ScriptCall::value`, `Replies::push`, `turns_are_replayed`: `read_script` is the
+//!   grammar, of at most 20,000 lines with at most 16,384 bytes in a field, or its first fault, or there was no memory;
+//!   that grammar as a relation, both ways; a line's value means what the line asks; `push` appends the next reply line to
+//!   a session's text, with its rank or without (`AreKept`); turns are those of the replay.
 #![tactic(auto)]
 
 mod commands;

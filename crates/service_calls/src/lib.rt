@@ -1,4 +1,10 @@
 //! Calls on the service as values, and what they answer. An output buffer stands beside a call.
+//!
+//! What is proved:
+//!
+//! - `plain`, `bytes`, `identifier`, `description`, `number`; `Op::new`: an answer is that of the reply which the call
+//!   gives (`AnswersReply`); a handle is one of four. Which request of the model a value means is a definition
+//!   (`model_request`).
 #![tactic(auto)]
 
 mod call;

@@ -1,4 +1,8 @@
 //! The states of a slot of the key store, and the changes between them.
+//!
+//! What is proved:
+//!
+//! - `may_change`: which changes of a slot's state there are.
 #![tactic(auto)]
 
 ghost use Rattle.std.specs.Prelude.{◌≡◌};

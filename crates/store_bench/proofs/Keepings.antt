@@ -16,6 +16,7 @@ use Rattle.store_bench.proofs.Outs.{are_one, hold, lease_beside, filling_alone, 
 use Rattle.disk_face.specs.declared.Disk as Disk
 use Rattle.driver_dispatch.specs.declared.devices.Devices as Devices
 use Rattle.admission.specs.declared.rules.Admission as Admission
+use Rattle.key_cells.specs.Prelude.{store_size}
 
 module _ {D A C : Type 0} (disks : Disk.Ghosts D) (elements : Devices.Ghosts A) (admits : Admission.Ghosts C) where
   abbrev KeepsHere : Store D A C → List Pairs → Type 0
@@ -79,7 +80,7 @@ module _ {D A C : Type 0} (disks : Disk.Ghosts D) (elements : Devices.Ghosts A) 
     is_entry : (caller : ℕ) (request : Request) (mark : FaultMark) → 1 ≤ caller → caller ≤ 16 → IsEntry disks elements admits new mark (entry caller request mark)
     is_entry caller request mark first last = record { from_first = first; to_last = last; marked = refl; done = refl; disk_faults = refl; device_faults = refl }
 
-    module _ (sized : disks.size new.file.cells.disk ≡ 557120) (clear : IsClear new.buffer) where
+    module _ (sized : disks.size new.file.cells.disk ≡ store_size) (clear : IsClear new.buffer) where
       pub added : (P : model.Store → Type 0) → AddsAs disks elements admits old new P → KeepsHere old all → KeepsHere new all
       added P adds k =
           let e = entry 1 (OnStore (GetAttributes 0)) Plain in
@@ -159,7 +160,7 @@ module _ {D A C : Type 0} (disks : Disk.Ghosts D) (elements : Devices.Ghosts A) 
 
   -- UNDER LEASES
 
-  module _ (old new : Store D A C) (sized : disks.size new.file.cells.disk ≡ 557120) (clear : IsClear new.buffer) where
+  module _ (old new : Store D A C) (sized : disks.size new.file.cells.disk ≡ store_size) (clear : IsClear new.buffer) where
     pub lends : {E : Type 0} (result : Result Reading E) (id : ℕ) (P : Reading → model.Store → Type 0) →
         IfOk result (λ l. ReadsAndGives disks elements admits old new id (l.slot, l.creation + 1) (P l)) → IfOk result (λ l. GivesLease disks elements admits old new 4 (l.slot, l.creation + 1))
     lends (Ok l) id P reads = λ own leases k.

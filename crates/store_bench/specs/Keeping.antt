@@ -8,6 +8,7 @@ use Rattle.store_model.specs.Prelude.{Service, Entry}
 use Rattle.disk_face.specs.declared.Disk as Disk
 use Rattle.driver_dispatch.specs.declared.devices.Devices as Devices
 use Rattle.admission.specs.declared.rules.Admission as Admission
+use Rattle.key_cells.specs.Prelude.{store_size}
 
 -- nothing is out of the store
 abbrev pub none_out : List Pairs
@@ -33,7 +34,7 @@ pub record StandsForSomeHistory {D A C : Type 0} (disks : Disk.Ghosts D) (elemen
   pub opening : Opening
   pub h : List Entry
   pub stands : StandsFor disks elements admits store start opening h all
-  pub sized : disks.size store.file.cells.disk ≡ 557120
+  pub sized : disks.size store.file.cells.disk ≡ store_size
   pub clear : IsClear store.buffer
 
 module _ {D A C : Type 0} (disks : Disk.Ghosts D) (elements : Devices.Ghosts A) (admits : Admission.Ghosts C) where

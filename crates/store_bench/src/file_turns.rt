@@ -1,6 +1,6 @@
 // What is done again and again.
 ghost use Rattle.std.specs.Prelude.{◌≡◌, ◌≤◌, ◌∷◌, [], ℕ, length, IfOk};
-ghost use Rattle.key_cells.specs.Prelude.{IsKeyOf};
+ghost use Rattle.key_cells.specs.Prelude.{IsKeyOf, cell_count, store_size};
 
 use crate::plain_disk::PlainDisk;
 use key_attributes::{Attributes, KeyId, KeyType, Lifetime, Policy, Usage};
@@ -27,8 +27,8 @@ pub fn one_byte_key(id: u32) -> Attributes
 
 /// A new store.
 pub fn new_store(alloc: Global) -> Result<Cells<PlainDisk>, OpenFault>
-    ensures size { IfOk result (λ cells. length cells.disk.bytes.items ≡ 557120) }
-    ensures slots { IfOk result (λ cells. length cells.states.items ≡ 512) }
+    ensures size { IfOk result (λ cells. length cells.disk.bytes.items ≡ store_size) }
+    ensures slots { IfOk result (λ cells. length cells.states.items ≡ cell_count) }
 {
     match Cells::open(alloc, PlainDisk::new(alloc)) {
         Ok(cells) => Ok(cells),
@@ -38,10 +38,10 @@ pub fn new_store(alloc: Global) -> Result<Cells<PlainDisk>, OpenFault>
 
 /// Makes a key in each of 512 cells.
 pub fn fill(cells: &mut Cells<PlainDisk>) -> Result<(), CellFault>
-    requires size { length cells.old.disk.bytes.items ≡ 557120 }
-    requires slots { length cells.old.states.items ≡ 512 }
-    ensures size { length cells.new.disk.bytes.items ≡ 557120 }
-    ensures slots { length cells.new.states.items ≡ 512 }
+    requires size { length cells.old.disk.bytes.items ≡ store_size }
+    requires slots { length cells.old.states.items ≡ cell_count }
+    ensures size { length cells.new.disk.bytes.items ≡ store_size }
+    ensures slots { length cells.new.states.items ≡ cell_count }
 {
     for id in 1..513u32 {
         cells.create(0, &one_byte_key(id), &[0xa5])?;

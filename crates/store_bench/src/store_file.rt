@@ -1,5 +1,6 @@
 // A full store file over a disk in memory, with which one thing is done again and again.
 ghost use Rattle.std.specs.Prelude.{◌≡◌, length, IfSome};
+ghost use Rattle.key_cells.specs.Prelude.{store_size};
 
 use crate::file_turns;
 use crate::plain_disk::PlainDisk;
@@ -8,7 +9,7 @@ use std::alloc::Global;
 
 // A full store.
 fn full_store(alloc: Global) -> Option<Cells<PlainDisk>>
-    ensures { IfSome result (λ cells. length cells.disk.bytes.items ≡ 557120) }
+    ensures { IfSome result (λ cells. length cells.disk.bytes.items ≡ store_size) }
 {
     let Ok(mut cells) = file_turns::new_store(alloc) else {
         return None;

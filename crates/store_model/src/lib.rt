@@ -1,4 +1,21 @@
 //! The one-thread key store, its calls and its replies: definitions, which stand in `specs/`, and laws of them.
+//!
+//! What is proved:
+//!
+//! - `leaves_other_callers`, `leaves_other_handles`, `leaves_shared`: laws of the one-thread service, of all its calls,
+//!   with keys found at opening, rules and failing devices. A call leaves what is other callers' and other handles' own,
+//!   and, where it neither creates nor destroys, what is shared but for the count of calls.
+//! - `refusals_leave_all`: where no device failed, a refusal leaves all but that count and what its table says of its own
+//!   handle; any refusal leaves its output buffer, but for the zeros of INVALID_SIGNATURE, INVALID_PADDING and
+//!   HARDWARE_FAILURE.
+//! - `stays_sound`, `keys_stay`, `alive_by_number`: a sound service stays so over calls of its sixteen callers, with at
+//!   most 512 persistent keys and 16 live volatile ones of a caller; its keys stay until they are destroyed; whether an
+//!   operation's key is there is whether some key has its creation number, which no two keys have.
+//! - `rules_are_followed`, `copies_gain_nothing`: a created key obeys each rule; no chain of copies gains a flag or an
+//!   algorithm.
+//! - `marks_alone`, `causes_go_on`: the statuses of failed devices come exactly of marks; a history whose marks stand
+//!   where they may, or have their faults, goes on so with one more entry whose mark does.
+//! - `draws_few_words`: a call draws at most 256 words.
 #![tactic(auto)]
 
 ghost use Rattle.store_model.specs.Laws.{AllowedGoOn, CausesGoOn, CountsOnce, DrawsFewWords, LeavesOtherCallers, LeavesOtherHandles, LeavesSettings, LeavesShared, MarksAlone, RefusalsLeaveAll, RefusalsLeaveBuffers, RefusedSetupsLeaveAll, RulesAreFollowed, UnreadyHandlesStay};

@@ -1,8 +1,9 @@
 use Rattle.std.proofs.Common.{length, ◌≡◌}
 use Rattle.store_bench.proofs.file_turns.fill.Given as goal
+use Rattle.key_cells.specs.Prelude.{cell_count, store_size}
 
 abbrev pub invariant-loop-id : goal.invariant-loop-id
 invariant-loop-id l = record {
-  size : length l.cells.disk.bytes.items ≡ 557120;
-  slots : length l.cells.states.items ≡ 512;
+  size : length l.cells.disk.bytes.items ≡ store_size;
+  slots : length l.cells.states.items ≡ cell_count;
 }
