@@ -18,7 +18,7 @@ import sys
 import tempfile
 import time
 
-PSA = os.path.realpath(os.path.join(os.path.dirname(os.path.realpath(__file__)), "..", "psa"))
+TOP = os.path.dirname(os.path.dirname(os.path.realpath(__file__)))
 LIMIT = 4 * 1024 * 1024  # the longest script
 SCRIPT = b"1 export #1\n1 export #2\n"
 
@@ -55,7 +55,9 @@ class Trial:
 
     def __init__(self, folder):
         self.folder, self.count, self.has_failed = folder, 0, False
-        self.psa, tools = shutil.copy(PSA, folder), os.path.join(folder, "tools")
+        self.psa, tools = os.path.join(folder, "psa"), os.path.join(folder, "tools")
+        for script in ("psa", "build"):
+            shutil.copy(os.path.join(TOP, script), folder)
         os.makedirs(os.path.join(folder, "crates", "psa_host", "src"))
         os.mkdir(tools)
         self.put("crates.txt", "psa_host:\n")
