@@ -174,7 +174,8 @@ impl Drop for Replies {
             successes: _,
             mut text,
         } = self;
+        let count = text.len();
         text.fill(0);
-        let_zeros_go(text);
+        let_zeros_go(text, count);
     }
 }

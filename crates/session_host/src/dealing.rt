@@ -55,8 +55,9 @@ pub fn free<D: Disk, A: Devices, C: Admission>(workers: Vec<Worker<D, A, C>>)
             spacing: _spacing,
         } = worker;
         sessions.destroy_empty();
+        let count = buffer.len();
         buffer.fill(0);
-        let_zeros_go(buffer);
+        let_zeros_go(buffer, count);
     }
     workers.destroy_empty();
 }
