@@ -1,7 +1,9 @@
 -- What several proofs of this crate cite of its words, and of other crates'.
 pub use Rattle.slot_table.specs.Links.{AreLinksOf, AreNeighbours, IsLinked, links_joined, link_at, linked_slots, newer_than, older_than}
-pub use Rattle.slot_table.specs.declared.index.Entry.{Entry}
-pub use Rattle.slot_table.specs.Index.{AreHalvings, IsAlone, IsGap, IsIndexOf, IsIndexed, IsSorted, entries_of, entry_at}
+pub use Rattle.key_index.specs.declared.index.Entry.{Entry}
+pub use Rattle.key_index.specs.Index.{IsAlone, IsIndexOf, entries_of}
+pub use Rattle.key_index.proofs.Changes.{index_finds, index_gains, index_loses, index_same}
+pub use Rattle.slot_table.specs.Index.{IsIndexed}
 pub use Rattle.std.proofs.lemmas.List.Sorted.{IsPermutation-insert, IsPermutation-remove, IsPermutation-sym, length_permutation, sum_by-IsPermutation}
 pub use Rattle.std.specs.List.Sorted.{IsPermutation}
 pub use Rattle.std.specs.List.{AllWithin, remove}

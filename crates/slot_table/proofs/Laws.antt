@@ -1,9 +1,7 @@
 -- What keeps the law of a table.
 use Rattle.slot_table.proofs.Common.{[], add-zero, ap, arith, Bool, buffer_of, CanReserve, cases_eq, cond, Empty, empty_slot, false, false≢true, Filling, find, Full, full_slot, get_or_past, holds_key, inl, inr, is_empty_state, is_full, is_idle, is_last, is_pending, is_some, IsEmptyAt, IsLawful, IsLawfulSlot, length, length-replicate, length-set, List, MatchOption, nat_tests, NoKey, None, NoneEmpty, Option, Pending, recency_without, refl, replicate, rules, set, Slot, slot_at, SlotState, Some, sym, Table, times, true, ℕ, ⊎_elim, ◌&&◌, ◌++◌, ◌+◌, ◌-◌, ◌<◌, ◌==◌, ◌∙◌, ◌∷◌, ◌≡◌, ◌≢◌, ◌≤◌}
 use Rattle.key_attributes.specs.declared.Attributes.{Attributes}
-use Rattle.slot_table.proofs.AtSlots.{at_each, full_test, read_within, key_is_full, idle_is_full, idle_is_unread, bytes-buffer_of, find_passes}
-use Rattle.slot_table.proofs.Views.{get_or-replicate_same}
-use Rattle.slot_table.proofs.Times.{times-append, times-same, times-other, without_none, length_distinct}
+use Rattle.slot_table.proofs.{AtSlots.at_each, AtSlots.full_test, AtSlots.read_within, AtSlots.key_is_full, AtSlots.idle_is_full, AtSlots.idle_is_unread, AtSlots.bytes-buffer_of, AtSlots.find_passes, Views.get_or-replicate_same, Times.times-append, Times.times-same, Times.times-other, Times.without_none, Times.length_distinct}
 
 -- one slot changes, and recency with it
 pub record Changes (t : Table) (i : ℕ) (s : Slot) (recency : List ℕ) : Type 0 where

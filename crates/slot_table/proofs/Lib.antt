@@ -3,7 +3,6 @@ pub mod AtSlots
 mod Indexed
 mod Laws
 mod Linked
-mod Searching
 mod Tables
 mod Times
 mod Views

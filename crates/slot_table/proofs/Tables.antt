@@ -1,10 +1,6 @@
 -- What keeps the law of a table and its index.
-use Rattle.slot_table.proofs.Common.{Bool, Entry, Filling, Full, IsIndexed, IsLawfulSlot, IsPermutation, List, MatchOption, NoKey, None, Option, Reserved, Slot, Some, Table, [], ap, arith, cond, empty_slot, entries_of, false, holds_key, is_full, length, length-append, length_permutation, recency_without, refl, replicate, set, slot_at, sym, times, true, ℕ, ◌++◌, ◌<◌, ◌∙◌, ◌∷◌, ◌≡◌, ◌≤◌}
-use Rattle.slot_table.proofs.Indexed.{has_unused, is_one, index_gains, index_loses, index_stays}
-use Rattle.slot_table.proofs.Views.{get_or-replicate_same}
-use Rattle.slot_table.proofs.Laws.{gets_key, lawful_start, loses_key, recency_has_room, stays_unused}
-use Rattle.slot_table.proofs.AtSlots.{filling_within}
-use Rattle.slot_table.proofs.Times.{length-without}
+use Rattle.slot_table.proofs.Common.{Entry, Filling, Full, IsIndexed, IsLawfulSlot, IsPermutation, List, NoKey, Reserved, Slot, Table, [], ap, arith, cond, empty_slot, false, holds_key, is_full, length, length-append, length_permutation, recency_without, refl, replicate, set, slot_at, sym, times, ℕ, ◌++◌, ◌<◌, ◌∙◌, ◌∷◌, ◌≡◌}
+use Rattle.slot_table.proofs.{Indexed.has_unused, Indexed.index_stays, Indexed.slot_gains, Indexed.slot_loses, Views.get_or-replicate_same, Laws.gets_key, Laws.lawful_start, Laws.loses_key, Laws.recency_has_room, Laws.stays_unused, AtSlots.filling_within, Times.length-without}
 
 pub unused_stays : (t : Table) (i : ℕ) (s : Slot) (entries : List Entry) → IsIndexed t entries → i < length t.slots → is_full (slot_at t.slots i).state ≡ false → is_full s.state ≡ false → IsLawfulSlot s → IsIndexed (record { slots = set t.slots i s; recency = t.recency }) entries
 unused_stays t i s entries kept within before after lawful = record {
@@ -14,19 +10,19 @@ unused_stays t i s entries kept within before after lawful = record {
 }
 
 pub table_gains : (t : Table) (i : ℕ) (s : Slot) (entries more : List Entry) → IsIndexed t entries → i < length t.slots → is_full (slot_at t.slots i).state ≡ false → s.state ≡ Full → NoKey s.attributes.id.0 t.slots → IsLawfulSlot s
-    → IsPermutation (record { id = s.attributes.id.0; slot = i } ∷ entries) more → IsIndexed (record { slots = set t.slots i s; recency = t.recency ++ i ∷ [] }) more
+    → IsPermutation (record { id = s.attributes.id.0; place = i } ∷ entries) more → IsIndexed (record { slots = set t.slots i s; recency = t.recency ++ i ∷ [] }) more
 table_gains t i s entries more kept within before after unknown lawful moved = record {
   law = gets_key t i s kept.law within before after unknown lawful;
-  index = index_gains t.slots i s entries more within before after moved kept.index;
+  index = slot_gains t.slots i s entries more within before after moved kept.index;
   sized = omega (arith, length_permutation _ _ moved, kept.sized, length-append t.recency (i ∷ []));
 }
 
 pub table_loses : (t : Table) (i : ℕ) (s : Slot) (entries fewer : List Entry) → IsIndexed t entries → i < length t.slots → (slot_at t.slots i).state ≡ Full → is_full s.state ≡ false → IsLawfulSlot s
-    → IsPermutation entries (record { id = (slot_at t.slots i).attributes.id.0; slot = i } ∷ fewer) → IsIndexed (record { slots = set t.slots i s; recency = recency_without i t.recency }) fewer
+    → IsPermutation entries (record { id = (slot_at t.slots i).attributes.id.0; place = i } ∷ fewer) → IsIndexed (record { slots = set t.slots i s; recency = recency_without i t.recency }) fewer
 table_loses t i s entries fewer kept within before after lawful moved =
     let once : times i t.recency ≡ 1 = kept.law.recent i ∙ ap (λ x. cond (is_full x) 1 0) before in record {
       law = loses_key t i s kept.law within after lawful;
-      index = index_loses t.slots i s entries fewer within before after moved kept.index;
+      index = slot_loses t.slots i s entries fewer within before after moved kept.index;
       sized = omega (arith, length_permutation _ _ moved, kept.sized, length-without i t.recency, once);
     }
 
@@ -60,12 +56,3 @@ table_starts n is = record {
   index = λ id i. ap (λ (s : Slot). cond (holds_key id s) 1 0) (sym (get_or-replicate_same n i empty_slot));
   sized = refl;
 }
-
--- what an index tells of a key
-pub index_finds : (t : Table) (id : ℕ) (entries : List Entry) (found : Option ℕ) → IsIndexed t entries → MatchOption found ((i : ℕ) → entries_of id i entries ≡ 0) (λ i. 1 ≤ entries_of id i entries)
-    → MatchOption found (NoKey id t.slots) (λ i. holds_key id (slot_at t.slots i) ≡ true)
-index_finds t id entries (Some i) kept some = is_one (holds_key id (slot_at t.slots i)) (rw (kept.index id i) at some)
-index_finds t id entries None kept none = λ i. is_none (holds_key id (slot_at t.slots i)) (sym (kept.index id i) ∙ none i) where
-  is_none : (b : Bool) → cond {A = ℕ} b 1 0 ≡ 0 → b ≡ false
-  is_none true zero = absurd (omega (arith, zero))
-  is_none false zero = refl

@@ -8,14 +8,12 @@
 //!   comparisons k that 2^k ≤ 2n + 1 with n full slots. A look for an empty slot begins where none before is empty.
 #![tactic(auto)]
 
-mod index;
 mod lent;
 mod place;
 mod recency;
 mod rows;
-mod steps;
 mod table;
 
+pub use key_index::Steps;
 pub use lent::{Filling, Lease};
-pub use steps::Steps;
 pub use table::{SLOTS, SlotTable};

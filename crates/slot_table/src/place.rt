@@ -3,8 +3,7 @@ ghost use Rattle.std.specs.Prelude.{◌≡◌, ◌<◌, ◌≤◌, ◌-◌, ◌+
 ghost use Rattle.secret_bytes.specs.Buffer.{buffer_of};
 ghost use Rattle.slot_states.specs.Changes.{may_change};
 ghost use Rattle.slot_states.specs.declared.SlotState.TheVariants.{Empty};
-ghost use Rattle.slot_table.specs.Slots.{is_empty_state, is_full, is_pending, is_idle, is_last};
-ghost use Rattle.slot_table.specs.Rows.{empty_head, no_key, slot_of};
+ghost use Rattle.slot_table.specs.{Slots.is_empty_state, Slots.is_full, Slots.is_pending, Slots.is_idle, Slots.is_last, Rows.empty_head, Rows.no_key, Rows.slot_of};
 
 use key_attributes::Attributes;
 use psa_status::Memory;

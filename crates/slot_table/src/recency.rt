@@ -1,8 +1,6 @@
 //! The order in which the full slots of a table were used.
 ghost use Rattle.std.specs.Prelude.{◌≡◌, ◌<◌, ◌≤◌, [], ◌∷◌, ◌++◌, length, find, IfOk};
-ghost use Rattle.slot_table.specs.Slots.{times, slot_at, is_idle};
-ghost use Rattle.slot_table.specs.Changes.{recency_without};
-ghost use Rattle.slot_table.specs.Links.{links_joined};
+ghost use Rattle.slot_table.specs.{Slots.times, Slots.slot_at, Slots.is_idle, Changes.recency_without, Links.links_joined};
 
 use crate::rows::{SLOTS, SlotRows};
 use psa_status::Memory;

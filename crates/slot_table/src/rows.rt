@@ -2,9 +2,7 @@
 ghost use Rattle.std.specs.Prelude.{◌≡◌, ◌<◌, ◌≤◌, ◌-◌, ◌+◌, ◌^◌, length, slice_set, replicate, true, IfOk, IfSome, MatchOption};
 ghost use Rattle.slot_states.specs.Changes.{may_change};
 ghost use Rattle.slot_states.specs.declared.SlotState.TheVariants.{Empty, Full};
-ghost use Rattle.slot_table.specs.Slots.{empty_slot, slot_at, is_idle, is_last, NoneEmpty, IsEmptyAt, IsNoneEmptyBefore};
-ghost use Rattle.slot_table.specs.Changes.{full_slot, registered};
-ghost use Rattle.slot_table.specs.Rows.{no_key};
+ghost use Rattle.slot_table.specs.{Slots.empty_slot, Slots.slot_at, Slots.is_idle, Slots.is_last, Slots.NoneEmpty, Slots.IsEmptyAt, Slots.IsNoneEmptyBefore, Changes.full_slot, Changes.registered, Rows.no_key};
 
 use crate::place::{Head, Stored, is_idle, is_last};
 use key_attributes::Attributes;

@@ -3,30 +3,28 @@ ghost use Rattle.std.specs.Prelude.{◌≡◌, ◌<◌, ◌≤◌, ◌-◌, ◌+
 ghost use Rattle.std.specs.Bool.{OnTrue, OnFalse};
 ghost use Rattle.secret_bytes.specs.Buffer.{IsClear, bytes_of};
 ghost use Rattle.slot_states.specs.declared.SlotState.TheVariants.{Full};
-ghost use Rattle.slot_table.specs.Slots.{empty_slot, filling_slot, slot_at, is_full, holds_key, is_idle, NoKey, NoneEmpty, IsEmptyAt, CanReserve, IsNext, IsLawful};
-ghost use Rattle.slot_table.specs.Index.{AreHalvings};
-ghost use Rattle.slot_table.specs.Changes.{full_slot, registered, left, destroyed_slot, recency_without};
+ghost use Rattle.slot_table.specs.{Slots.empty_slot, Slots.filling_slot, Slots.slot_at, Slots.is_full, Slots.holds_key, Slots.is_idle, Slots.NoKey, Slots.NoneEmpty, Slots.IsEmptyAt, Slots.CanReserve, Slots.IsNext, Slots.IsLawful, Changes.full_slot, Changes.registered, Changes.left, Changes.destroyed_slot, Changes.recency_without};
+ghost use Rattle.key_index.specs.Index.{AreHalvings};
 
-use crate::index::KeyIndex;
 use crate::lent::{Filling, Lease};
 use crate::recency::Recency;
 pub use crate::rows::SLOTS;
 use crate::rows::SlotRows;
-use crate::steps::Steps;
 use key_attributes::{Attributes, KeyId};
+use key_index::{KeyIndex, Steps};
 use psa_status::Memory;
 use secret_bytes::Secret;
 use slot_states::SlotState;
 use std::alloc::Global;
-use std::marker::{Brand, Model};
-use std::sync::ledger::{Blank, Ledger};
+use std::marker::Model;
+use std::sync::ledger::Ledger;
 
 /// The slots of the key store, by number, with the order in which the full ones were registered or filled.
 #[derive(Drop)]
 pub struct SlotTable {
     rows: SlotRows,
     recency: Recency,
-    index: KeyIndex,
+    index: Box<KeyIndex<SLOTS>>,
 }
 
 impl Model for SlotTable {
@@ -37,7 +35,7 @@ impl Model for SlotTable {
 
     ghost view = { λ t. record { slots = t.rows; recency = t.recency } };
 
-    ghost invariant = { λ t. IsIndexed (record { slots = t.rows; recency = t.recency }) t.index };
+    ghost invariant = { λ t. IsIndexed (record { slots = t.rows; recency = t.recency }) t.index.value };
 }
 
 impl SlotTable {
@@ -48,7 +46,9 @@ impl SlotTable {
     {
         let rows = SlotRows::new(alloc)?;
         let recency = Recency::new(alloc)?;
-        let index = KeyIndex::new(alloc)?;
+        let Ok(index) = Box::new(alloc, KeyIndex::new()) else {
+            return Err(Memory);
+        };
         Ok(SlotTable {
             rows,
             recency,
@@ -61,7 +61,7 @@ impl SlotTable {
         ensures found { MatchOption result (NoKey id.0 self.now.slots) (λ i. holds_key id.0 (slot_at self.now.slots i) ≡ true) }
         ensures lawful { IsLawful self.now }
     {
-        self.find_in::<Brand>(id, Blank::new(1))
+        self.index.find(id.0)
     }
 
     /// The same, with each comparison of a full slot's identifier as a step. They are as few as a search by halves takes.
@@ -70,7 +70,7 @@ impl SlotTable {
         ensures steps { AreHalvings (length self.now.recency) steps.old steps.new }
         ensures lawful { IsLawful self.now }
     {
-        self.index.find(id.0, steps)
+        self.index.find_counted(id.0, steps)
     }
 
     /// The creation number of the key of a full slot.
@@ -236,17 +236,6 @@ impl SlotTable {
         ensures { result ≡ is_full (slot_at self.now.slots lease.now.slot).state }
     {
         self.rows.head(lease.slot).is_full()
-    }
-
-    // Looks for a key, with the steps in a ledger of their own.
-    fn find_in<L: Ledger>(&self, id: KeyId, blank: Blank) -> Option<u32>
-        requires name { blank.name ≡ L.name }
-        requires parts { blank.parts ≡ L.parts }
-        requires some { 0 < blank.parts }
-        ensures found { MatchOption result (NoKey id.0 self.now.slots) (λ i. holds_key id.0 (slot_at self.now.slots i) ≡ true) }
-        ensures lawful { IsLawful self.now }
-    {
-        self.find_counted(id, &mut Steps::<L>::new(blank))
     }
 
     // The least recently used slot that has a persistent key which nobody reads.

@@ -1,8 +1,5 @@
 use Rattle.slot_table.proofs.Common.{Full, Table, [], ap, arith, cond, is_full, length-append, recency_without, refl, slot_at, times, ◌∙◌, ◌∷◌, ◌≡◌}
-use Rattle.slot_table.proofs.Times.{length-without}
-use Rattle.slot_table.proofs.AtSlots.{full_within}
-use Rattle.slot_table.proofs.Indexed.{index_stays}
-use Rattle.slot_table.proofs.Laws.{becomes_last, lawful_full}
+use Rattle.slot_table.proofs.{Times.length-without, AtSlots.full_within, Indexed.index_stays, Laws.becomes_last, Laws.lawful_full}
 use Rattle.slot_table.proofs.table.SlotTable.register.Goals as goal
 
 pub invariant_of-self : goal.invariant_of-self
@@ -12,7 +9,7 @@ invariant_of-self c =
     rw (c.register.ensures, c.refresh.ensures)
     (record {
       law = becomes_last _ _ _ c.self.invariant.law (full_within _ _ full) full full refl (lawful_full _ _ (c.self.invariant.law.each c.args.slot) refl full);
-      index = index_stays _ _ _ c.self.inside.index (full_within _ _ full) (λ id. refl) c.self.invariant.index;
+      index = index_stays _ _ _ c.self.inside.index.value (full_within _ _ full) (λ id. refl) c.self.invariant.index;
       sized = omega (arith, c.self.invariant.sized, once, length-without c.args.slot c.self.inside.recency, length-append (recency_without c.args.slot c.self.inside.recency) (c.args.slot ∷ []));
     })
 

@@ -1,8 +1,5 @@
 use Rattle.slot_table.proofs.Common.{Table, ap, false, is_last, refl, slot_at, sym, true, ◌<◌, ◌∙◌, ◌≡◌}
-use Rattle.slot_table.proofs.AtSlots.{read_within}
-use Rattle.slot_table.proofs.Laws.{loses_reader, lawful_empty, pending_is_unused}
-use Rattle.slot_table.proofs.Indexed.{index_stays}
-use Rattle.slot_table.proofs.Tables.{unused_stays}
+use Rattle.slot_table.proofs.{AtSlots.read_within, Laws.loses_reader, Laws.lawful_empty, Laws.pending_is_unused, Indexed.index_stays, Tables.unused_stays}
 use Rattle.slot_table.proofs.table.SlotTable.release.Goals as goal
 
 pub is_last-requires : goal.is_last-requires
@@ -23,7 +20,7 @@ invariant_of-self-else-is_last c =
     rw c.unregister.ensures
     (record {
       law = loses_reader _ _ c.self.invariant.law read more;
-      index = index_stays _ _ _ c.self.inside.index (read_within _ _ read) (λ id. refl) c.self.invariant.index;
+      index = index_stays _ _ _ c.self.inside.index.value (read_within _ _ read) (λ id. refl) c.self.invariant.index;
       sized = c.self.invariant.sized;
     })
 

@@ -1,6 +1,5 @@
 use Rattle.slot_table.proofs.Common.{ap, empty_slot, get_or-set_same, is_empty_state, length, length-set, recency_without, set-set, Slot, sym, Table, ◌<◌, ◌∙◌}
-use Rattle.slot_table.proofs.AtSlots.{full_within}
-use Rattle.slot_table.proofs.Laws.{first_is_full, empty_is_not_recent}
+use Rattle.slot_table.proofs.{AtSlots.full_within, Laws.first_is_full, Laws.empty_is_not_recent}
 use Rattle.slot_table.proofs.table.SlotTable.reserve.Goals as goal
 
 pub returns-in-Some-clause-recency : goal.returns-in-Some-clause-recency

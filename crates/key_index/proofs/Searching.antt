@@ -1,5 +1,5 @@
 -- A search by halves in a sorted row.
-use Rattle.slot_table.proofs.Common.{AllWithin, AreHalvings, Entry, IsSorted, List, arith, entry_at, get_or, get_or_default, length, suc, ℕ, ◌*◌, ◌+◌, ◌-◌, ◌/◌, ◌<◌, ◌^◌, ◌≡◌, ◌≤◌}
+use Rattle.key_index.proofs.Common.{AllWithin, AreHalvings, Entry, IsSorted, List, arith, entry_at, get_or, get_or_default, length, suc, ℕ, ◌*◌, ◌+◌, ◌-◌, ◌/◌, ◌<◌, ◌^◌, ◌≡◌, ◌≤◌}
 use Rattle.std.proofs.Math.Nat.{mul-le-mul_left, mul_assoc, pow-suc, le-mul_of_pos_right}
 
 -- so many steps were made, and so many of n things are left
@@ -39,7 +39,7 @@ goes_up id entries before now low high sorted s some less =
       within = s.within;
       below = λ k d least below.
           let up : (get_or entries k d).id ≤ (get_or entries middle d).id = sorted k middle d (omega (arith, below)) inside in
-          let less' : (get_or entries middle d).id < id = rw (get_or_default entries middle d (record { id = 0; slot = 0 }) inside) less in
+          let less' : (get_or entries middle d).id < id = rw (get_or_default entries middle d (record { id = 0; place = 0 }) inside) less in
           omega (arith, up, less');
       above = s.above;
       few = halved (length entries) before now (high - low) (high - (middle + 1)) s.few (omega (arith, some)) (omega (arith, some));
@@ -56,7 +56,7 @@ goes_down id entries before now low high sorted s some more =
       below = s.below;
       above = λ k d least below.
           let up : (get_or entries middle d).id ≤ (get_or entries k d).id = sorted middle k d least below in
-          let more' : id < (get_or entries middle d).id = rw (get_or_default entries middle d (record { id = 0; slot = 0 }) inside) more in
+          let more' : id < (get_or entries middle d).id = rw (get_or_default entries middle d (record { id = 0; place = 0 }) inside) more in
           omega (arith, up, more');
       few = halved (length entries) before now (high - low) (middle - low) s.few (omega (arith, some)) (omega (arith, some));
     }

@@ -1,4 +1,4 @@
-use Rattle.slot_table.proofs.index.find_place.Given as goal
+use Rattle.key_index.proofs.index.position_of.Given as goal
 
 abbrev pub ghosts-search_in : goal.ghosts-search_in
 ghosts-search_in a = record { name = a.blank.name; parts = a.blank.parts }

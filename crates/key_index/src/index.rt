@@ -1,23 +1,19 @@
-//! The full slots of a table by the identifiers of their keys.
+//! The places of keys by their identifiers.
 ghost use Rattle.std.specs.Prelude.{◌≡◌, ℕ, ◌<◌, ◌≤◌, ◌+◌, [], ◌∷◌, length, IfOk, IfErr, MatchOption};
-ghost use Rattle.std.specs.List.Sorted.{IsPermutation};
-ghost use Rattle.std.specs.Ordering.{MatchOrdering};
-ghost use Rattle.slot_table.specs.Index.{AreHalvings, IsAlone, IsGap, IsSorted, entries_of, entry_at};
+ghost use Rattle.std.specs.{List.Sorted.IsPermutation, Ordering.MatchOrdering};
+ghost use Rattle.key_index.specs.Index.{AreHalvings, IsAlone, IsGap, IsSorted, entries_of, entry_at};
 
-use crate::rows::SLOTS;
 use crate::steps::Steps;
 use arrayvec::ArrayVec;
-use psa_status::Memory;
-use std::alloc::Global;
 use std::cmp::Ordering;
 use std::marker::{Brand, Model};
 use std::sync::ledger::{Blank, Ledger};
 
-/// A full slot, by the identifier of its key.
+/// The place of a key, by its identifier.
 #[derive(Clone, Copy, Default, Drop)]
 pub struct Entry {
     pub id: u32,
-    pub slot: u32,
+    pub place: u32,
 }
 
 impl Entry {
@@ -31,70 +27,86 @@ impl Entry {
     }
 }
 
-/// The entries of the full slots, the least identifier first.
+/// At most so many entries, the least identifier first.
 #[derive(Drop)]
-pub struct KeyIndex {
-    entries: Box<ArrayVec<Entry, SLOTS>>,
+pub struct KeyIndex<const CAPACITY: usize> {
+    entries: ArrayVec<Entry, CAPACITY>,
 }
 
-impl Model for KeyIndex {
+impl<const CAPACITY: usize> Model for KeyIndex<CAPACITY> {
     ghost use Rattle.std.specs.Prelude.{List};
-    ghost use Rattle.slot_table.specs.Index.{IsSorted};
-    ghost use Rattle.slot_table.specs.declared.index.Entry.{Entry};
+    ghost use Rattle.key_index.specs.Index.{IsSorted};
+    ghost use Rattle.key_index.specs.declared.index.Entry.{Entry};
 
     ghost Value = { List Entry };
 
-    ghost view = { λ i. i.entries.value.items };
+    ghost view = { λ i. i.entries.items };
 
-    ghost invariant = { λ i. IsSorted i.entries.value.items };
+    ghost invariant = { λ i. IsSorted i.entries.items };
 }
 
-impl KeyIndex {
-    /// No entries; `Memory` where there is no room for 384.
-    pub fn new(alloc: Global) -> Result<KeyIndex, Memory>
-        ensures { IfOk result (λ index. index ≡ []) }
+impl<const CAPACITY: usize> KeyIndex<CAPACITY> {
+    /// No entries.
+    pub fn new() -> KeyIndex<CAPACITY>
+        ensures { result ≡ [] }
     {
-        match Box::new(alloc, ArrayVec::new()) {
-            Ok(entries) => Ok(KeyIndex { entries }),
-            Err(_) => Err(Memory),
+        KeyIndex {
+            entries: ArrayVec::new(),
         }
     }
 
-    /// The slot of an entry of this identifier. Each comparison of an entry is a step.
-    pub fn find<L: Ledger>(&self, id: u32, steps: &mut Steps<L>) -> Option<u32>
-        ensures found { MatchOption result ((i : ℕ) → entries_of id i self.now ≡ 0) (λ i. 1 ≤ entries_of id i self.now) }
-        ensures steps { AreHalvings (length self.now) steps.old steps.new }
+    /// The place in an entry of this identifier.
+    pub fn find(&self, id: u32) -> Option<u32>
+        ensures { MatchOption result ((i : ℕ) → entries_of id i self.now ≡ 0) (λ i. 1 ≤ entries_of id i self.now) }
     {
-        match search(self.entries.as_slice(), id, steps) {
-            Ok(place) => Some(self.entries[place].slot),
+        match position_of(self.entries.as_slice(), id) {
+            Ok(position) => Some(self.entries[position].place),
             Err(_) => None,
         }
     }
 
-    /// Puts a slot in by this identifier.
-    pub fn insert(&mut self, id: u32, slot: u32)
-        requires room { length self.old < 384 }
-        requires missing { (i : ℕ) → entries_of id i self.old ≡ 0 }
-        ensures { IsPermutation (record { id = id; slot = slot } ∷ self.old) self.new }
+    /// The same, with each comparison of an entry as a step.
+    pub fn find_counted<L: Ledger>(&self, id: u32, steps: &mut Steps<L>) -> Option<u32>
+        ensures found { MatchOption result ((i : ℕ) → entries_of id i self.now ≡ 0) (λ i. 1 ≤ entries_of id i self.now) }
+        ensures steps { AreHalvings (length self.now) steps.old steps.new }
     {
-        if let Err(place) = find_place(self.entries.as_slice(), id) {
-            self.entries.insert(place, Entry { id, slot });
+        match search(self.entries.as_slice(), id, steps) {
+            Ok(position) => Some(self.entries[position].place),
+            Err(_) => None,
         }
     }
 
-    /// Takes out the one entry of this identifier, which is that of this slot.
-    pub fn remove(&mut self, id: u32, _slot: u32)
-        requires { IsAlone id _slot self.old }
-        ensures { IsPermutation self.old (record { id = id; slot = _slot } ∷ self.new) }
+    /// How many entries there are.
+    pub fn len(&self) -> usize
+        ensures { result ≡ length self.now }
     {
-        if let Ok(place) = find_place(self.entries.as_slice(), id) {
-            self.entries.remove(place);
+        self.entries.len()
+    }
+
+    /// Puts an entry in.
+    pub fn insert(&mut self, id: u32, place: u32)
+        requires room { length self.old < CAPACITY }
+        requires missing { (i : ℕ) → entries_of id i self.old ≡ 0 }
+        ensures { IsPermutation (record { id = id; place = place } ∷ self.old) self.new }
+    {
+        if let Err(position) = position_of(self.entries.as_slice(), id) {
+            self.entries.insert(position, Entry { id, place });
+        }
+    }
+
+    /// Takes out the one entry of this identifier, which has this place.
+    pub fn remove(&mut self, id: u32, _place: u32)
+        requires { IsAlone id _place self.old }
+        ensures { IsPermutation self.old (record { id = id; place = _place } ∷ self.new) }
+    {
+        if let Ok(position) = position_of(self.entries.as_slice(), id) {
+            self.entries.remove(position);
         }
     }
 }
 
-// The place of an entry of this identifier, or the place where one is missing.
-fn find_place(entries: &[Entry], id: u32) -> Result<usize, usize>
+// Where an entry of this identifier stands, or where one is missing.
+fn position_of(entries: &[Entry], id: u32) -> Result<usize, usize>
     requires { IsSorted entries.now }
     ensures found { IfOk result (λ i. (i < length entries.now) × ((entry_at entries.now i).id ≡ id)) }
     ensures missing { IfErr result (λ i. IsGap id entries.now i) }

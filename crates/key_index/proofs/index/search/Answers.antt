@@ -1,5 +1,5 @@
-use Rattle.slot_table.proofs.Searching.{goes_up, goes_down, found_at}
-use Rattle.slot_table.proofs.index.search.Goals as goal
+use Rattle.key_index.proofs.Searching.{goes_up, goes_down, found_at}
+use Rattle.key_index.proofs.index.search.Goals as goal
 
 pub loop-low-preserved-in-Less : goal.loop-low-preserved-in-Less
 loop-low-preserved-in-Less g c = rw c.compare.ensures.step (goes_up _ _ _ _ _ _ c.requires c.loop-low.invariant c.loop-low-test.true c.in-Less.ensures.ordering)

@@ -1,0 +1,4 @@
+mod Common
+mod Entries
+pub mod Changes
+mod Searching

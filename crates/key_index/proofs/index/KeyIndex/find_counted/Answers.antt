@@ -1,0 +1,5 @@
+use Rattle.key_index.proofs.Entries.{gap_has_none}
+use Rattle.key_index.proofs.index.KeyIndex.find_counted.Goals as goal
+
+pub returns-in-Err-clause-found : goal.returns-in-Err-clause-found
+returns-in-Err-clause-found g c = λ i. gap_has_none _ _ i _ (rw (c.as_slice.ensures.value, c.self.view_is) at c.in-Err.ensures.missing)

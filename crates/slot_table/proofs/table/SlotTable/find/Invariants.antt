@@ -1,4 +1,0 @@
-use Rattle.slot_table.proofs.table.SlotTable.find.Given as goal
-
-abbrev pub ghosts-find_in : goal.ghosts-find_in
-ghosts-find_in a = record { name = a.blank.name; parts = a.blank.parts }
