@@ -2,8 +2,7 @@
 use Rattle.key_cells.proofs.Common.{Attributes, HasKeyUpTo, HoldsKey, HoldsNoKey, IsKept, IsKeyOf, IsLength, IsNoLength, IsNoRecord, IsPersistent, IsRecord, List, None, Ok, Option, Some, ap, arith, body_of, drop, drop-drop, drop-replicate, drop-take, drop_at, front_of, length, length-drop, length-replicate, length-take, refl, replicate, spelling, subst, sym, take, take-append-drop, take_all, take_at, written, ℕ, ⊎_elim, ◌*◌, ◌++◌, ◌+◌, ◌-◌, ◌<◌, ◌^◌, ◌∙◌, ◌≡◌, ◌≤◌}
 use Rattle.std.specs.Int.{w16, w32, from_le_bytes}
 use Rattle.std.proofs.lemmas.Nat.{from_le_bytes-to_le_bytes_2, from_le_bytes-to_le_bytes_4}
-use Rattle.psa_status.specs.declared.Status.{Status}
-use Rattle.psa_status.specs.Rows.{first_row, unless}
+use Rattle.psa_status.specs.{declared.Status.Status, Rows.first_row, Rows.unless}
 use Rattle.key_attributes.specs.Checks.{size_rows}
 
 -- the parts of the body of a key's cell

@@ -1,11 +1,7 @@
 -- How cells are made zeros that are left over from a crash.
-use Rattle.key_cells.proofs.Common.{Absent, Clearing, ClearsOn, Content, Doubtful, Elapses, Follows, Free, HoldsAround, HoldsWritten, IsSettled, LeavesWhatIsRead, List, None, Open, Option, Shows, Shut, CellState, Some, Sound, SoundBy, Spares, StandsForContents, Torn, Unsure, Within, ap, arith, body, cases_eq, cell_state, cell_count, closed, drop, ext_get_or, gate, get_or, get_or-map, get_or-set_other, get_or-set_same, is_some, length, length-map, part, place, refl, replicate, set, settled_state, settled_states, subst, sym, take, within_both, within_one, written, written_torn, zeros, ℕ, ⊎_elim, ◌+◌, ◌<◌, ◌∙◌, ◌≡◌}
+use Rattle.key_cells.proofs.Common.{Absent, Clearing, ClearsOn, Content, Doubtful, Elapses, Follows, Free, HoldsAround, HoldsWritten, IsSettled, LeavesWhatIsRead, List, None, Open, Option, Shows, Shut, CellState, Some, Sound, SoundBy, Spares, StandsForContents, Torn, Unsure, Within, ap, arith, body, cases_eq, cell_state, cell_count, closed, drop, gate, get_or, get_or-map, get_or-set_other, get_or-set_same, is_some, length, part, place, refl, replicate, set, settled_state, settled_states, subst, sym, take, within_both, within_one, written, written_torn, zeros, ℕ, ⊎_elim, ◌+◌, ◌<◌, ◌∙◌, ◌≡◌}
 use Rattle.disk_face.specs.declared.Disk as Disk
-use Rattle.key_cells.proofs.Parts.{part_written}
-use Rattle.key_cells.proofs.Images.{sound_after, same_all, same_states}
-use Rattle.key_cells.proofs.Steps.{body_torn, body_whole, zeros_are}
-use Rattle.key_cells.proofs.Moves.{settled_alike}
-use Rattle.key_cells.proofs.CellsRead.{gate_read, body_read}
+use Rattle.key_cells.proofs.{Parts.part_written, Images.sound_after, Images.same_all, Images.same_states, Steps.body_torn, Steps.body_whole, Steps.zeros_are, Moves.settled_alike, CellsRead.gate_read, CellsRead.body_read}
 
 spares_shut : (content : Content) (g b b' : List ℕ) → Spares Shut content g b → Spares Shut content g b'
 spares_shut Absent g b b' s = s
@@ -134,9 +130,6 @@ pub settled_settled : (states states' : List CellState) → length states ≡ ce
 settled_settled states states' count is cell lt =
     let at : cell_state states' cell ≡ settled_state (cell_state states cell) = ap (λ (l : List CellState). cell_state l cell) is ∙ get_or-map settled_state states cell Free Free (omega (arith, count)) in
     at ∙ (settled_twice (cell_state states cell) ∙ ap settled_state (sym at))
-
-pub all_settled : (states : List CellState) → IsSettled (length states) states → states ≡ settled_states states
-all_settled states settled = ext_get_or Free states (settled_states states) (sym (length-map states settled_state)) (λ i lt. settled i lt ∙ sym (get_or-map settled_state states i Free Free lt))
 
 module _ {D : Type 0} (disks : Disk.Ghosts D) where
   -- nothing was left over

@@ -25,7 +25,7 @@ pub use Rattle.std.proofs.lemmas.Bool.Decides.{Decides-eqb}
 pub use Rattle.std.proofs.lemmas.List.Sums.{count_by_more_no, count_by_more_yes, sum_by-cons}
 pub use Rattle.std.proofs.lemmas.Result.{IfErr-weaker, IfOk-weaker, on_err_weaker, on_ok_weaker}
 pub use Rattle.std.proofs.lemmas.Slice.Eq.{slice_eq-Decides}
-pub use Rattle.std.proofs.Common.{Bool, Err, IfErr, IfSome, List, None, Ok, OnErr, OnOk, Option, Result, Some, [], ap, append_assoc, arith, cond, count_by, drop, false, get_or, inl, inr, is_some, length, map, refl, replicate, set, subst, sym, take, true, ℕ, ⊎_elim, ◌*◌, ◌++◌, ◌+◌, ◌-◌, ◌<◌, ◌==◌, ◌^◌, ◌∙◌, ◌∷◌, ◌≡◌, ◌≢◌, ◌≤◌, ◌⊎◌}
+pub use Rattle.std.proofs.Common.{Bool, zero, suc, MatchOption, Err, IfErr, IfSome, List, None, Ok, OnErr, OnOk, Option, Result, Some, [], ap, append_assoc, arith, cond, count_by, drop, false, get_or, inl, inr, is_some, length, map, refl, replicate, set, subst, sym, take, true, ℕ, ⊎_elim, ◌*◌, ◌++◌, ◌+◌, ◌-◌, ◌<◌, ◌==◌, ◌^◌, ◌∙◌, ◌∷◌, ◌≡◌, ◌≢◌, ◌≤◌, ◌⊎◌}
 pub use Rattle.std.proofs.lemmas.List.{drop-drop, drop-replicate, drop-take, drop_at, ext_get_or, get_or-map, get_or-replicate, get_or-set_other, get_or-set_same, get_or-take, get_or_append_left, get_or_push, get_or_read, length-append, length-drop, length-map, length-replicate, length-set, length-take, map-set, nil_from_length, set-get_or, set-set, take-append-drop, take-map, take-replicate, take-set-le, take-take, take_all, take_at, take_more, take_more_set}
 pub use Rattle.key_cells.specs.Inspected.{AreFirstKeys, HasKeyOf, IsInspectFaultOf, KeepsKey}
 pub use Rattle.key_cells.specs.Opened.{Calm, HoldsSinceSync, IsBlankSinceSync, IsOpened, IsOpeningRefused, SparesSinceSync, WritesItsOwn}

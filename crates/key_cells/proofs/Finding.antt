@@ -1,11 +1,15 @@
 -- What the states are that an opening reads, one cell after the other.
-use Rattle.key_cells.proofs.Common.{[], ap, arith, body, Bool, cases_eq, cell_state, CellState, closed, cond, count_by, count_by_more_no, count_by_more_yes, creation_of_state, DamagedCell, drop, eq-eqb, eqb-true, false, Free, gate, get_or, get_or-set_other, get_or-set_same, get_or-take, GivesPart, has_id, HasNoKey, HasOneEach, HoldsId, HoldsNoKey, identifier_in, IfSome, inl, inr, is_open, IsBadCell, IsDamaged, IsNamed, IsNumbered, IsOpenFaultOf, IsPersistent, IsStoreFile, length, length-set, length-take, List, None, Open, opened_gate, Option, Reads, ReadsBelow, refl, set, Shut, Some, subst, sym, take, take-set-le, true, Unsure, ℕ, ⊎_elim, ◌*◌, ◌+◌, ◌<◌, ◌∙◌, ◌∷◌, ◌≡◌, ◌≢◌, ◌≤◌, cell_count}
-use Rattle.key_cells.proofs.Bodies.{parts_of}
-use Rattle.key_cells.proofs.CellsRead.{gate_read, body_read}
+use Rattle.key_cells.proofs.Common.{[], ap, arith, body, Bool, cases_eq, cases_lt, cell_state, CellState, closed, cond, count_by, count_by_more_no, count_by_more_yes, creation_of_state, DamagedCell, drop, eq-eqb, eqb-true, false, Free, gate, get_or, get_or-replicate, get_or-set_other, get_or-set_same, GivesPart, has_id, HasNoKey, HasOneEach, HoldsId, HoldsNoKey, identifier_in, IfSome, inl, inr, is_open, IsBadCell, IsDamaged, IsNamed, IsNumbered, IsOpen, IsOpenFaultOf, IsPersistent, IsStoreFile, length, length-set, List, None, Open, opened_gate, Option, Reads, ReadsBelow, refl, replicate, set, Shut, Some, subst, sym, take, take-set-le, true, Unsure, ℕ, ⊎_elim, ◌*◌, ◌+◌, ◌<◌, ◌∙◌, ◌∷◌, ◌≡◌, ◌≢◌, ◌≤◌, cell_count}
+use Rattle.key_cells.proofs.{Bodies.parts_of, CellsRead.gate_read, CellsRead.body_read}
+use Rattle.std.proofs.lemmas.List.{get_or_past}
 
 pub gate_closed : (bytes : List ℕ) → length bytes ≡ 1088 → get_or bytes 0 0 ≡ 0 → take 1 bytes ≡ closed
 gate_closed [] size first = absurd (omega arith)
 gate_closed (x ∷ xs) size first = ap (λ (y : ℕ). y ∷ []) first
+
+-- a new directory
+pub new_is_unread : (cell : ℕ) → cell_state (replicate cell_count Free) cell ≡ Free
+new_is_unread cell = ⊎_elim (λ within. get_or-replicate cell_count cell Free Free within) (λ past. get_or_past (replicate cell_count Free) cell Free past) (cases_lt cell cell_count)
 
 -- one cell more is read
 pub reads_more : (told : Option (List ℕ)) (count : ℕ) (states : List CellState) (state : CellState) (bytes : List ℕ) → count < length states → IfSome told (λ image. ReadsBelow count states image)
@@ -21,10 +25,17 @@ reads_more (Some image) count states state bytes lt below gives reads = λ cell 
     here : Reads state (gate count image) (body count image)
     here = subst (λ (b : List ℕ). Reads state (gate count image) b) (ap (drop 1) gives ∙ body_read count image) (subst (λ (g : List ℕ). Reads state g (drop 1 bytes)) (ap (take 1) gives ∙ gate_read count image) reads)
 
-none_below : (count : ℕ) (states : List CellState) (id cell : ℕ) → cell < count → count ≤ length states → HasNoKey (take count states) id → has_id id (cell_state states cell) ≡ false
-none_below count states id cell lt le none = ap (has_id id) (sym (get_or-take count states cell Free lt)) ∙ none cell (omega (arith, length-take count states))
+-- the cells that aren't read yet are as in a new directory
+abbrev pub IsUnread : ℕ → List CellState → Type 0
+IsUnread count states = (cell : ℕ) → count ≤ cell → cell_state states cell ≡ Free
 
-pub one_more : (count : ℕ) (states : List CellState) (state : CellState) → count < length states → HasOneEach count states → ((id : ℕ) → has_id id state ≡ true → HasNoKey (take count states) id) → HasOneEach (count + 1) (set states count state)
+was_read : (count : ℕ) (states : List CellState) (id cell : ℕ) → IsUnread count states → has_id id (cell_state states cell) ≡ true → cell < count
+was_read count states id cell unread has = ⊎_elim (λ before. before) (λ after. let none : false ≡ true = ap (has_id id) (sym (unread cell after)) ∙ has in cc) (cases_lt cell count)
+
+pub unread_more : (count : ℕ) (states : List CellState) (state : CellState) → IsUnread count states → IsUnread (count + 1) (set states count state)
+unread_more count states state unread cell after = get_or-set_other states count cell state Free (λ same. omega (arith, after, same)) ∙ unread cell (omega (arith, after))
+
+pub one_more : (count : ℕ) (states : List CellState) (state : CellState) → count < length states → HasOneEach count states → ((id : ℕ) → has_id id state ≡ true → HasNoKey states id) → HasOneEach (count + 1) (set states count state)
 one_more count states state lt one new id cell other cell_lt other_lt has has' =
     ⊎_elim
     (λ cell_is. ⊎_elim (λ other_is. cell_is ∙ sym other_is) (λ differs. absurd (clash other (omega arith) (at_new cell cell_is has) (at_old other differs has'))) (cases_eq other count))
@@ -41,7 +52,7 @@ one_more count states state lt one new id cell other cell_lt other_lt has has' =
     at_old k differs h = ap (has_id id) (sym (get_or-set_other states count k state Free differs)) ∙ h
 
     clash : (k : ℕ) → k < count → has_id id state ≡ true → has_id id (cell_state states k) ≡ true → ⊥
-    clash k less here there = let e : false ≡ true = sym (none_below count states id k less (omega arith) (new id here)) ∙ there in cc
+    clash k less here there = let e : false ≡ true = sym (new id here k (omega arith)) ∙ there in cc
 
 pub keys_more : (count found found' : ℕ) (states : List CellState) (state : CellState) → count < length states → found ≡ count_by is_open (take count states) → found' ≡ found + cond (is_open state) 1 0
     → found' ≡ count_by is_open (take (count + 1) (set states count state))
@@ -105,9 +116,9 @@ not_damaged count states image reads one cell lt damaged =
 
 -- the first damaged cell
 pub first_damaged : (told : Option (List ℕ)) (count : ℕ) (states : List CellState) (bytes : List ℕ) → count < cell_count → length states ≡ cell_count → IfSome told (λ image. IsStoreFile image) → IfSome told (λ image. ReadsBelow count states image)
-    → HasOneEach count states → GivesPart told (64 + 1088 * count) 1088 bytes → IsBadCell bytes (take count states) → IfSome told (λ image. IsOpenFaultOf (DamagedCell count) image)
-first_damaged None count states bytes lt size store reads one gives bad = tt
-first_damaged (Some image) count states bytes lt size store reads one gives bad =
+    → HasOneEach count states → IsUnread count states → GivesPart told (64 + 1088 * count) 1088 bytes → IsBadCell bytes states → IfSome told (λ image. IsOpenFaultOf (DamagedCell count) image)
+first_damaged None count states bytes lt size store reads one unread gives bad = tt
+first_damaged (Some image) count states bytes lt size store reads one unread gives bad =
     let gate_is : take 1 bytes ≡ gate count image = ap (take 1) gives ∙ gate_read count image in
     let body_is : drop 1 bytes ≡ body count image = ap (drop 1) gives ∙ body_read count image in
     record {
@@ -117,12 +128,7 @@ first_damaged (Some image) count states bytes lt size store reads one gives bad 
         sym gate_is ∙ bad.0,
         ⊎_elim
             (λ none. inl (subst (λ (b : List ℕ). HoldsNoKey b) body_is none))
-            (λ twice.
-            let earlier : ℕ = twice.2.0 in
-            let less : earlier < count = omega (arith, twice.2.1, length-take count states) in
-            let has : has_id twice.0 (cell_state states earlier) ≡ true = ap (has_id twice.0) (sym (get_or-take count states earlier Free less)) ∙ twice.2.2 in
-            let there = holder (cell_state states earlier) twice.0 (gate earlier image) (body earlier image) (reads earlier less) has in
-            inr (earlier, less, there.0, id_of twice.0 (body earlier image) there.1 ∙ sym (id_of twice.0 (body count image) (subst (λ (b : List ℕ). HoldsId twice.0 b) body_is twice.1))))
+            (λ twice. inr (is_twice twice.0 twice.2.0 (subst (λ (b : List ℕ). HoldsId twice.0 b) body_is twice.1) twice.2.2))
             bad.1,
       );
       before = λ other less damaged. not_damaged count states image reads one other less damaged;
@@ -133,3 +139,10 @@ first_damaged (Some image) count states bytes lt size store reads one gives bad 
     holder (Open own creation) id gate body r has = (r.0, subst (λ (n : ℕ). HoldsId n body) (eqb-true own id has) r.1)
     holder Shut id gate body r has = cc
     holder Unsure id gate body r has = cc
+
+    -- an earlier open cell has the identifier of a body
+    is_twice : (id earlier : ℕ) → HoldsId id (body count image) → has_id id (cell_state states earlier) ≡ true → (other : ℕ) × (other < count) × IsOpen other image × (identifier_in (body other image) ≡ identifier_in (body count image))
+    is_twice id earlier here has =
+        let less = was_read count states id earlier unread has in
+        let there = holder (cell_state states earlier) id (gate earlier image) (body earlier image) (reads earlier less) has in
+        (earlier, less, there.0, id_of id (body earlier image) there.1 ∙ sym (id_of id (body count image) here))

@@ -2,11 +2,8 @@
 use Rattle.key_cells.proofs.Common.{[], ap, AreFirstKeys, arith, Attributes, body, bytes_of, cases_eq, cases_lt, cond, drop, Err, gate, get_or_append_left, get_or_push, HasKeyOf, HoldsKey, IfErr, inl, inr, is_opened, IsFirstDamaged, IsInspectFaultOf, IsOpen, KeepsKey, length, length-append, List, None, Ok, OnOk, opened_gate, Opens, Option, part, ReadsKey, refl, Result, Some, subst, sum_by-map-range_with_len_more, sym, take, ℕ, ⊎_elim, ◌*◌, ◌++◌, ◌+◌, ◌-◌, ◌<◌, ◌∙◌, ◌∷◌, ◌≡◌, ◌≢◌, ◌⊎◌}
 use Rattle.std.proofs.lemmas.Option.{get_or_from_slice_get, slice_get_read, slice_get_within}
 unfoldable use Rattle.key_cells.specs.Inspected.{open_cells}
-use Rattle.key_cells.specs.declared.inspecting.FoundKey.{FoundKey}
-use Rattle.key_cells.specs.declared.inspecting.InspectFault.{InspectFault}
-use Rattle.key_cells.specs.declared.inspecting.InspectFault.TheVariants.{DamagedCell, Memory, NotAStore}
-use Rattle.key_cells.proofs.CellsRead.{body_read, gate_read}
-use Rattle.key_cells.proofs.Opened.{no_opened_gate}
+use Rattle.key_cells.specs.{declared.inspecting.FoundKey.FoundKey, declared.inspecting.InspectFault.InspectFault, declared.inspecting.InspectFault.TheVariants.DamagedCell, declared.inspecting.InspectFault.TheVariants.Memory, declared.inspecting.InspectFault.TheVariants.NotAStore}
+use Rattle.key_cells.proofs.{CellsRead.body_read, CellsRead.gate_read, Opened.no_opened_gate}
 
 open_more : (count : ℕ) (image : List ℕ) → open_cells (count + 1) image ≡ open_cells count image + cond (is_opened (gate count image)) 1 0
 unfolding open_cells

@@ -5,9 +5,7 @@ use Rattle.std.proofs.Common.{ne_eqb, suc, zero}
 unfoldable use Rattle.key_cells.specs.Layout.{blank_store}
 use Rattle.psa_status.specs.Causes.{Rose}
 use Rattle.key_cells.specs.declared.reading.OpenFault.{OpenFault}
-use Rattle.key_cells.proofs.CellsRead.{content_there, for_told, length-contents_of, some_weaker}
-use Rattle.key_cells.proofs.Finding.{not_damaged}
-use Rattle.key_cells.proofs.Moves.{settled_alike, settled_open}
+use Rattle.key_cells.proofs.{CellsRead.content_there, CellsRead.for_told, CellsRead.length-contents_of, CellsRead.some_weaker, Finding.not_damaged, Moves.settled_alike, Moves.settled_open}
 
 pub no_open_zeros : (n : ℕ) → HasNoOpenCell (replicate n 0)
 no_open_zeros n cell lt is = by (n - place cell) (ap (take 1) (sym (drop-replicate (place cell) n 0)) ∙ is)

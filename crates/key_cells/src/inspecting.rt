@@ -1,14 +1,11 @@
 // The keys of an image of a store file, without a disk.
 ghost use Rattle.std.specs.Prelude.{◌≡◌, ◌≤◌, ◌<◌, ◌↔◌, ◌⊎◌, ◌+◌, ◌*◌, List, ℕ, length, IfOk, IfErr, OnOk, IsErrOf, IsTrue};
-ghost use Rattle.key_cells.specs.Image.{IsStoreFile, Opens, IsFirstDamaged};
-ghost use Rattle.key_cells.specs.Layout.{part, store_size};
-ghost use Rattle.key_cells.specs.Opening.{ReadsKey};
-ghost use Rattle.key_cells.specs.Inspected.{AreKeysOf, IsInspectFaultOf, KeepsKey};
+ghost use Rattle.key_cells.specs.{Image.IsStoreFile, Image.Opens, Image.IsFirstDamaged, Layout.part, Layout.store_size, Opening.ReadsKey, Inspected.AreKeysOf, Inspected.IsInspectFaultOf, Inspected.KeepsKey};
 ghost use Rattle.key_cells.specs.declared.inspecting.InspectFault.TheVariants.{DamagedCell};
 ghost use Rattle.secret_bytes.specs.Buffer.{bytes_of};
 
-use crate::CellState;
 use crate::cells::{CELLS, STORE_SIZE, place};
+use crate::directory::Directory;
 use crate::reading::{CellRead, cell_at, decode, is_header};
 use key_attributes::Attributes;
 use psa_status::Memory;
@@ -114,18 +111,15 @@ fn read_keys(alloc: Global, image: &[u8]) -> Result<Vec<FoundKey>, InspectFault>
     ensures fault { IfErr result (λ fault. IsInspectFaultOf fault image.now) }
     ensures store { IsErrOf result InspectFault.NotAStore → ⊥ }
 {
-    let mut states = match vec![in alloc; CellState::Free; CELLS] {
-        Ok(states) => states,
-        Err(_) => return Err(InspectFault::Memory),
-    };
+    let mut states = Directory::new(alloc)?;
     let mut keys = Vec::new(alloc);
     for cell in 0..CELLS {
         let room = cell_at(image, place(cell) as usize);
-        let Some(read) = decode(room, &states[..cell], keys.len() as u64) else {
+        let Some(read) = decode(room, &states, keys.len() as u64) else {
             return Err(InspectFault::DamagedCell { cell });
         };
         keep_key(alloc, &mut keys, room, &read)?;
-        states[cell] = read.state;
+        states.set(cell, read.state);
     }
     Ok(keys)
 }

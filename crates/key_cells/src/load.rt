@@ -1,12 +1,7 @@
 // How the key of a cell is read.
 ghost use Rattle.std.specs.Prelude.{◌≡◌, ◌<◌, ◌≤◌, true, List, ℕ, length, IsErrOf, OnErr, IfOk};
-ghost use Rattle.key_cells.specs.Layout.{cell_count, store_size};
+ghost use Rattle.key_cells.specs.{Layout.cell_count, Layout.store_size, Contents.KeepsContents, Contents.cell_state, Contents.is_open, Contents.has_id, Body.IsKeyOf, Calls.IsKeyOfCell, Calls.IsCorrupt, History.Nothing, History.AddsEntry, Opened.Calm};
 ghost use Rattle.psa_status.specs.Causes.{Rose};
-ghost use Rattle.key_cells.specs.Contents.{KeepsContents, cell_state, is_open, has_id};
-ghost use Rattle.key_cells.specs.Body.{IsKeyOf};
-ghost use Rattle.key_cells.specs.Calls.{IsKeyOfCell, IsCorrupt};
-ghost use Rattle.key_cells.specs.History.{Nothing, AddsEntry};
-ghost use Rattle.key_cells.specs.Opened.{Calm};
 ghost use Rattle.secret_bytes.specs.Buffer.{bytes_of, IsClear};
 
 use crate::body::{read_key, wipe};
@@ -22,18 +17,18 @@ impl<D: Disk> Cells<D> {
     /// only where the disk's faults rose, `Corrupt` only where the cell is read otherwise than it was written.
     pub fn load(&mut self, cell: usize, out: &mut Secret) -> Result<Attributes, CellFault>
         requires size { D.size self.old.disk ≡ store_size }
-        requires states { length self.old.states.items ≡ cell_count }
+        requires states { length self.old.states ≡ cell_count }
         requires within { cell < cell_count }
-        requires open { is_open (cell_state self.old.states.items cell) ≡ true }
+        requires open { is_open (cell_state self.old.states cell) ≡ true }
         ensures size { D.size self.new.disk ≡ store_size }
         ensures states { self.new.states ≡ self.old.states }
         ensures same { D.contents self.new.disk ≡ D.contents self.old.disk }
         ensures calm { Calm D.Disk self.old.disk self.new.disk }
-        ensures named { IfOk result (λ attributes. has_id attributes.id.0 (cell_state self.old.states.items cell) ≡ true) }
+        ensures named { IfOk result (λ attributes. has_id attributes.id.0 (cell_state self.old.states cell) ≡ true) }
         ensures key { IfOk result (λ attributes. IsKeyOf attributes (bytes_of out.new)) }
         ensures loaded { IfOk result (λ attributes. IsKeyOfCell D.Disk self.old cell attributes (bytes_of out.new)) }
-        ensures keeps { KeepsContents D.Disk self.old.disk self.new.disk self.old.states.items self.old.states.items }
-        ensures entry { AddsEntry D.Disk self.old.disk self.new.disk self.old.states.items self.old.states.items Nothing }
+        ensures keeps { KeepsContents D.Disk self.old.disk self.new.disk self.old.states self.old.states }
+        ensures entry { AddsEntry D.Disk self.old.disk self.new.disk self.old.states self.old.states Nothing }
         ensures clear { OnErr result (IsClear out.new) }
         ensures disk { IsErrOf result CellFault.Disk → Rose (D.faults self.old.disk) (D.faults self.new.disk) }
         ensures corrupt { IsErrOf result CellFault.Corrupt → IsCorrupt D.Disk self.old cell }
@@ -61,16 +56,16 @@ impl<D: Disk> Cells<D> {
         out: &mut Secret,
     ) -> Result<Attributes, CellFault>
         requires size { D.size self.old.disk ≡ store_size }
-        requires states { length self.old.states.items ≡ cell_count }
+        requires states { length self.old.states ≡ cell_count }
         requires within { cell < cell_count }
         ensures size { D.size self.new.disk ≡ store_size }
         ensures states { self.new.states ≡ self.old.states }
         ensures same { D.contents self.new.disk ≡ D.contents self.old.disk }
         ensures calm { Calm D.Disk self.old.disk self.new.disk }
-        ensures named { IfOk result (λ attributes. has_id attributes.id.0 (cell_state self.old.states.items cell) ≡ true) }
+        ensures named { IfOk result (λ attributes. has_id attributes.id.0 (cell_state self.old.states cell) ≡ true) }
         ensures key { IfOk result (λ attributes. IsKeyOf attributes (bytes_of out.new)) }
         ensures loaded { IfOk result (λ attributes. IsKeyOfCell D.Disk self.old cell attributes (bytes_of out.new)) }
-        ensures keeps { KeepsContents D.Disk self.old.disk self.new.disk self.old.states.items self.old.states.items }
+        ensures keeps { KeepsContents D.Disk self.old.disk self.new.disk self.old.states self.old.states }
         ensures disk { IsErrOf result CellFault.Disk → Rose (D.faults self.old.disk) (D.faults self.new.disk) }
         ensures corrupt { IsErrOf result CellFault.Corrupt → IsCorrupt D.Disk self.old cell }
         ensures full { IsErrOf result CellFault.Full → ⊥ }
@@ -83,7 +78,7 @@ impl<D: Disk> Cells<D> {
         let Some((attributes, end)) = read_key(room) else {
             return Err(CellFault::Corrupt);
         };
-        if !self.states[cell].has(attributes.id.0) {
+        if !self.states.state(cell).has(attributes.id.0) {
             return Err(CellFault::Corrupt);
         }
         out.fill_from(&room[52..end]);

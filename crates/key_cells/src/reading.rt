@@ -1,17 +1,14 @@
 // What an opening reads.
-ghost use Rattle.std.specs.Prelude.{◌≡◌, ◌≢◌, ◌≤◌, drop, false, length, IsErrOf, ◌<◌, ◌+◌, ◌*◌, ◌%◌, cond, take, IfOk, IfErr, IfSome, OnOk, IsTrue, MatchOption, ◌↔◌, ℕ};
+ghost use Rattle.std.specs.Prelude.{◌≡◌, ◌≢◌, ◌≤◌, drop, false, length, IsErrOf, ◌<◌, ◌+◌, ◌*◌, ◌%◌, cond, take, replicate, IfOk, IfErr, IfSome, OnOk, IsTrue, MatchOption, ◌↔◌, ℕ};
 ghost use Rattle.psa_status.specs.Causes.{HasCause, Rose};
 ghost use Rattle.disk_face.specs.Disk.{NoNewImage, Elapses};
-ghost use Rattle.key_cells.specs.Contents.{is_open, HasNoKey, IsFirstWithKey};
-ghost use Rattle.key_cells.specs.Image.{IsStoreFile};
-ghost use Rattle.key_cells.specs.Opening.{GivesBlock, GivesPart, IsBadCell, Reads, ReadsCell, ReadsKey, ReadsBelow, HasOneEach, IsNumbered, IsNamed};
-ghost use Rattle.key_cells.specs.Causes.{IsOpenFaultOf, IsDisk};
-ghost use Rattle.key_cells.specs.Opened.{Calm};
-ghost use Rattle.key_cells.specs.Layout.{opened_gate, header, part, cell_count, store_size};
+ghost use Rattle.key_cells.specs.declared.state.CellState.TheVariants.{Free};
+ghost use Rattle.key_cells.specs.{Contents.is_open, Image.IsStoreFile, Opening.GivesBlock, Opening.GivesPart, Opening.IsBadCell, Opening.Reads, Opening.ReadsCell, Opening.ReadsKey, Opening.ReadsBelow, Opening.HasOneEach, Opening.IsNumbered, Opening.IsNamed, Causes.IsOpenFaultOf, Causes.IsDisk, Opened.Calm, Layout.opened_gate, Layout.header, Layout.part, Layout.cell_count, Layout.store_size};
 
 use crate::CellState;
 use crate::body::{is_zero, read_key};
 use crate::cells::{CELLS, CLOSED, OPENED, place};
+use crate::directory::Directory;
 use disk_face::Disk;
 use key_attributes::Attributes;
 use psa_status::Failed;
@@ -60,19 +57,6 @@ fn read_block<D: Disk>(disk: &mut D, cell: usize, block: &mut [u8]) -> Result<()
     Ok(())
 }
 
-/// The cell of a key, among these states.
-#[tactic(auto, using(crate::proofs::Counts::has_id_open))]
-pub fn find_key(states: &[CellState], id: u32) -> Option<usize>
-    ensures { MatchOption result (HasNoKey states.now id) (λ cell. IsFirstWithKey states.now id cell) }
-{
-    for (cell, state) in states.iter().enumerate() {
-        if state.has(id) {
-            return Some(cell);
-        }
-    }
-    None
-}
-
 /// What the bytes of a cell say: its state, and where it is open its key, by the attributes and the end of the bytes.
 #[derive(Drop)]
 pub struct CellRead {
@@ -81,7 +65,7 @@ pub struct CellRead {
 }
 
 // What the bytes of an open cell say, its key being the next that was found; none where it is damaged.
-fn decode_open(bytes: &[u8; 1088], before: &[CellState], found: u64) -> Option<CellRead>
+fn decode_open(bytes: &[u8; 1088], before: &Directory, found: u64) -> Option<CellRead>
     requires { take 1 bytes.now ≡ opened_gate }
     ensures { MatchOption result (IsBadCell bytes.now before.now)
         (λ read. ReadsCell read.state bytes.now before.now found × ReadsKey read.key bytes.now) }
@@ -90,7 +74,7 @@ fn decode_open(bytes: &[u8; 1088], before: &[CellState], found: u64) -> Option<C
         return None;
     };
     let id = attributes.id.0;
-    match find_key(before, id) {
+    match before.find(id) {
         Some(_cell) => None,
         None => Some(CellRead {
             state: CellState::Open {
@@ -118,7 +102,7 @@ fn decode_closed(bytes: &[u8; 1088]) -> CellState
 }
 
 /// What the bytes of a cell say; none where it is damaged.
-pub fn decode(bytes: &[u8; 1088], before: &[CellState], found: u64) -> Option<CellRead>
+pub fn decode(bytes: &[u8; 1088], before: &Directory, found: u64) -> Option<CellRead>
     ensures { MatchOption result (IsBadCell bytes.now before.now)
         (λ read. ReadsCell read.state bytes.now before.now found × ReadsKey read.key bytes.now) }
 {
@@ -180,18 +164,18 @@ pub enum OpenFault {
 #[tactic(auto, using(crate::proofs::Opened::calm_both))]
 pub fn read_store<D: Disk>(
     disk: &mut D,
-    states: &mut Vec<CellState>,
+    states: &mut Directory,
     block: &mut [u8],
 ) -> Result<(), OpenFault>
     requires size { D.size disk.old ≡ store_size }
-    requires states { length states.old.items ≡ cell_count }
+    requires states { states.old ≡ replicate cell_count Free }
     requires room { length block.old ≡ 69632 }
     ensures store { OnOk result (IfSome (D.contents disk.old) (λ image. IsStoreFile image)) }
-    ensures read { OnOk result (IfSome (D.contents disk.old) (λ image. ReadsBelow cell_count states.new.items image)) }
-    ensures one { OnOk result (HasOneEach cell_count states.new.items) }
-    ensures numbered { OnOk result (IsNumbered cell_count states.new.items) }
-    ensures named { OnOk result (IsNamed cell_count states.new.items) }
-    ensures states { length states.new.items ≡ cell_count }
+    ensures read { OnOk result (IfSome (D.contents disk.old) (λ image. ReadsBelow cell_count states.new image)) }
+    ensures one { OnOk result (HasOneEach cell_count states.new) }
+    ensures numbered { OnOk result (IsNumbered cell_count states.new) }
+    ensures named { OnOk result (IsNamed cell_count states.new) }
+    ensures states { length states.new ≡ cell_count }
     ensures cause { IfErr result (λ fault. IfSome (D.contents disk.old) (λ image. IsOpenFaultOf fault image)) }
     ensures size { D.size disk.new ≡ store_size }
     ensures calm { Calm D.Disk disk.old disk.new }
@@ -211,18 +195,18 @@ pub fn read_store<D: Disk>(
 #[tactic(auto, using(crate::proofs::Opened::calm_none, crate::proofs::Opened::calm_one, crate::proofs::Opened::calm_both))]
 fn read_states<D: Disk>(
     disk: &mut D,
-    states: &mut Vec<CellState>,
+    states: &mut Directory,
     block: &mut [u8],
 ) -> Result<(), OpenFault>
     requires size { D.size disk.old ≡ store_size }
-    requires states { length states.old.items ≡ cell_count }
+    requires states { states.old ≡ replicate cell_count Free }
     requires room { length block.old ≡ 69632 }
     requires store { IfSome (D.contents disk.old) (λ image. IsStoreFile image) }
-    ensures read { OnOk result (IfSome (D.contents disk.old) (λ image. ReadsBelow cell_count states.new.items image)) }
-    ensures one { OnOk result (HasOneEach cell_count states.new.items) }
-    ensures numbered { OnOk result (IsNumbered cell_count states.new.items) }
-    ensures named { OnOk result (IsNamed cell_count states.new.items) }
-    ensures states { length states.new.items ≡ cell_count }
+    ensures read { OnOk result (IfSome (D.contents disk.old) (λ image. ReadsBelow cell_count states.new image)) }
+    ensures one { OnOk result (HasOneEach cell_count states.new) }
+    ensures numbered { OnOk result (IsNumbered cell_count states.new) }
+    ensures named { OnOk result (IsNamed cell_count states.new) }
+    ensures states { length states.new ≡ cell_count }
     ensures cause { IfErr result (λ fault. IfSome (D.contents disk.old) (λ image. IsOpenFaultOf fault image)) }
     ensures size { D.size disk.new ≡ store_size }
     ensures calm { Calm D.Disk disk.old disk.new }
@@ -235,11 +219,11 @@ fn read_states<D: Disk>(
             Err(Failed) => return Err(OpenFault::Disk),
         }
         let bytes = cell_at(block, 1088 * (cell % BLOCK));
-        let Some(read) = decode(bytes, &states[..cell], found) else {
+        let Some(read) = decode(bytes, states, found) else {
             return Err(OpenFault::DamagedCell { cell });
         };
         found = counted(found, &read.state);
-        states[cell] = read.state;
+        states.set(cell, read.state);
     }
     Ok(())
 }

@@ -15,8 +15,7 @@ pub enum CellState {
 }
 
 impl CellState {
-    ghost use Rattle.std.specs.Prelude.{true, false, ◌≢◌};
-    ghost use Rattle.key_cells.specs.Contents.{is_open, has_id, settled_state};
+    ghost use Rattle.key_cells.specs.Contents.{is_open, has_id};
 
     // Whether the cell has a key that isn't in doubt.
     pub fn has_key(&self) -> bool
@@ -27,19 +26,6 @@ impl CellState {
             CellState::Open { .. } => true,
             CellState::Shut => false,
             CellState::Unsure => false,
-        }
-    }
-
-    // Whether the cell is closed and not known to be all zeros.
-    pub fn is_left_over(&self) -> bool
-        ensures closed { result ≡ false → self.now ≡ settled_state self.now }
-        ensures left { result ≡ true → self.now ≢ settled_state self.now }
-    {
-        match self {
-            CellState::Free => false,
-            CellState::Open { .. } => false,
-            CellState::Shut => true,
-            CellState::Unsure => true,
         }
     }
 

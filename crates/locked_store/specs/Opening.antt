@@ -15,7 +15,7 @@ module _ {D A C : Type 0} (w : World D A C) where
 
   -- the store was opened on this disk
   abbrev pub IsOpenedOn : D → Type 0
-  IsOpenedOn disk = IsOpened w.disk disk w.opened.file.value.cells.disk w.opened.file.value.cells.states.items
+  IsOpenedOn disk = IsOpened w.disk disk w.opened.file.value.cells.disk w.opened.file.value.cells.states
 
 -- the opening was refused; or it was done, and there was no memory for the lock
 abbrev pub IsNotOpened : {D : Type 0} → disk.Ghosts D → (old new : D) → OpenFault → Type 0

@@ -3,8 +3,7 @@ use Rattle.persistent_keys.proofs.Common.{Absent, AreFound, Content, Finds, Free
 use Rattle.disk_face.specs.declared.Disk as Disk
 use Rattle.std.proofs.lemmas.Bool.{eqb-true, eq-eqb}
 use Rattle.key_cells.specs.Contents as cells
-use Rattle.key_cells.proofs.CellsRead.{content_there}
-use Rattle.key_cells.proofs.Opened.{not_opened}
+use Rattle.key_cells.proofs.{CellsRead.content_there, Opened.not_opened}
 use Rattle.persistent_keys.proofs.Filing.{one_id}
 
 false_true : false ≡ true → ⊥

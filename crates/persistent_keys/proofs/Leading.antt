@@ -3,8 +3,7 @@ use Rattle.persistent_keys.proofs.Common.{[], Absent, ap, arith, Attributes, bod
 use Rattle.disk_face.specs.declared.Disk as Disk
 use Rattle.key_cells.specs.Contents as cells
 use Rattle.key_cells.proofs.Images.{sound_fits}
-use Rattle.persistent_keys.proofs.Fitting.{filed_fits, tells_open}
-use Rattle.persistent_keys.proofs.Filing.{no_doubt, settles, resettles, settled_twice, adds, removes, doubts, still_has, settled_shut, refiled, no_key, none_settled}
+use Rattle.persistent_keys.proofs.{Fitting.filed_fits, Fitting.tells_open, Filing.no_doubt, Filing.settles, Filing.resettles, Filing.settled_twice, Filing.adds, Filing.removes, Filing.doubts, Filing.still_has, Filing.settled_shut, Filing.refiled, Filing.no_key, Filing.none_settled}
 
 module _ {D : Type 0} (disks : Disk.Ghosts D) where
   -- contents before and after that are filed

@@ -5,8 +5,7 @@ ghost use Rattle.disk_face.specs.Disk.{StillTells};
 ghost use Rattle.key_cells.specs.Contents.{StaysFree, StaysFreeBut};
 ghost use Rattle.key_cells.specs.declared.state.CellState.TheVariants.{Free, Open};
 ghost use Rattle.key_cells.specs.Prelude.{Calm, HasNoKey, IsFirstWithKey, IsFirstWithoutKey, IsFull, IsSure, has_id, is_open, creation_of_state, settled_states, cell_state, IsKeyOf, IsOpened, IsOpeningRefused, cell_count, store_size};
-ghost use Rattle.persistent_keys.specs.Files.{stored, Keys, Doubt, AreFound};
-ghost use Rattle.persistent_keys.specs.Calls.{StandsForThese, HasStored, KeepsFile, PutsInFile, LeavesUnmade, LeavesUndestroyed};
+ghost use Rattle.persistent_keys.specs.{Files.stored, Files.Keys, Files.Doubt, Files.AreFound, Calls.StandsForThese, Calls.HasStored, Calls.KeepsFile, Calls.PutsInFile, Calls.LeavesUnmade, Calls.LeavesUndestroyed};
 ghost use Rattle.persistent_keys.specs.declared.file.MakeFault.TheVariants.{Disk};
 ghost use Rattle.secret_bytes.specs.Buffer.{bytes_of, IsClear};
 
@@ -39,11 +38,11 @@ impl<D: Disk> KeyFile<D> {
     /// Opens the file of a disk, or makes one on a disk of length 0. Nothing is in doubt then.
     pub fn open(alloc: Global, disk: D) -> Result<KeyFile<D>, (D, OpenFault)>
         ensures size { IfOk result (λ file. D.size file.cells.disk ≡ store_size) }
-        ensures states { IfOk result (λ file. length file.cells.states.items ≡ cell_count) }
-        ensures opened { IfOk result (λ file. IsOpened D.Disk disk file.cells.disk file.cells.states.items) }
-        ensures keys { IfOk result (λ file. IfSome (D.contents disk) (λ image. (keys : Keys) → AreFound image file.cells.states.items keys →
+        ensures states { IfOk result (λ file. length file.cells.states ≡ cell_count) }
+        ensures opened { IfOk result (λ file. IsOpened D.Disk disk file.cells.disk file.cells.states) }
+        ensures keys { IfOk result (λ file. IfSome (D.contents disk) (λ image. (keys : Keys) → AreFound image file.cells.states keys →
             StandsForThese D.Disk file keys [])) }
-        ensures found { IfOk result (λ file. IfSome (D.contents disk) (λ image. (keys : Keys) × AreFound image file.cells.states.items keys)) }
+        ensures found { IfOk result (λ file. IfSome (D.contents disk) (λ image. (keys : Keys) × AreFound image file.cells.states keys)) }
         ensures later { IfOk result (λ file. D.faults disk ≤ D.faults file.cells.disk) }
         ensures refused { IfErr result (λ refused. IsOpeningRefused D.Disk disk refused.0 refused.1) }
     {
@@ -55,7 +54,7 @@ impl<D: Disk> KeyFile<D> {
 
     /// The cell of a key.
     pub fn find(&self, id: u32) -> Option<usize>
-        ensures { MatchOption result (HasNoKey self.now.cells.states.items id) (λ cell. IsFirstWithKey self.now.cells.states.items id cell) }
+        ensures { MatchOption result (HasNoKey self.now.cells.states id) (λ cell. IsFirstWithKey self.now.cells.states id cell) }
     {
         self.cells.find(id)
     }
@@ -64,9 +63,9 @@ impl<D: Disk> KeyFile<D> {
     /// where the disk's faults rose; over a disk that tells its bytes, `Corrupt` never comes.
     pub fn load(&mut self, id: u32, cell: usize, out: &mut Secret) -> Result<Attributes, CellFault>
         requires size { D.size self.old.cells.disk ≡ store_size }
-        requires states { length self.old.cells.states.items ≡ cell_count }
+        requires states { length self.old.cells.states ≡ cell_count }
         requires within { cell < cell_count }
-        requires key { has_id id (cell_state self.old.cells.states.items cell) ≡ true }
+        requires key { has_id id (cell_state self.old.cells.states cell) ≡ true }
         ensures size { D.size self.new.cells.disk ≡ store_size }
         ensures states { self.new.cells.states ≡ self.old.cells.states }
         ensures same { D.contents self.new.cells.disk ≡ D.contents self.old.cells.disk }
@@ -74,7 +73,7 @@ impl<D: Disk> KeyFile<D> {
         ensures named { IfOk result (λ attributes. attributes.id.0 ≡ id) }
         ensures key { IfOk result (λ attributes. IsKeyOf attributes (bytes_of out.new)) }
         ensures loaded { IfOk result (λ attributes. HasStored D.Disk self.old id
-            (stored (creation_of_state (cell_state self.old.cells.states.items cell)) attributes (bytes_of out.new))) }
+            (stored (creation_of_state (cell_state self.old.cells.states cell)) attributes (bytes_of out.new))) }
         ensures keeps { KeepsFile D.Disk self.old self.new }
         ensures clear { OnErr result (IsClear out.new) }
         ensures disk { IsErrOf result CellFault.Disk → Rose (D.faults self.old.cells.disk) (D.faults self.new.cells.disk) }
@@ -95,21 +94,21 @@ impl<D: Disk> KeyFile<D> {
         bytes: &[u8],
     ) -> Result<(), MakeFault>
         requires size { D.size self.old.cells.disk ≡ store_size }
-        requires states { length self.old.cells.states.items ≡ cell_count }
+        requires states { length self.old.cells.states ≡ cell_count }
         requires key { IsKeyOf attributes.now bytes.now }
-        requires none { HasNoKey self.old.cells.states.items attributes.now.id.0 }
+        requires none { HasNoKey self.old.cells.states attributes.now.id.0 }
         ensures size { D.size self.new.cells.disk ≡ store_size }
-        ensures states { length self.new.cells.states.items ≡ cell_count }
+        ensures states { length self.new.cells.states ≡ cell_count }
         ensures made { OnOk result (PutsInFile D.Disk self.old self.new attributes.now.id.0 (Some (stored creation attributes.now bytes.now))) }
         ensures failed { IfErr result (λ fault. LeavesUnmade D.Disk self.old self.new fault attributes.now bytes.now) }
-        ensures placed { OnOk result ((cell : ℕ) × IsFirstWithoutKey self.old.cells.states.items cell ×
-            (self.new.cells.states.items ≡ set (settled_states self.old.cells.states.items) cell (Open attributes.now.id.0 creation))) }
-        ensures unplaced { OnErr result (settled_states self.new.cells.states.items ≡ settled_states self.old.cells.states.items) }
-        ensures free { StaysFreeBut self.old.cells.states.items self.new.cells.states.items }
+        ensures placed { OnOk result ((cell : ℕ) × IsFirstWithoutKey self.old.cells.states cell ×
+            (self.new.cells.states ≡ set (settled_states self.old.cells.states) cell (Open attributes.now.id.0 creation))) }
+        ensures unplaced { OnErr result (settled_states self.new.cells.states ≡ settled_states self.old.cells.states) }
+        ensures free { StaysFreeBut self.old.cells.states self.new.cells.states }
         ensures tells { StillTells (D.contents self.old.cells.disk) (D.contents self.new.cells.disk) }
-        ensures full { IsErrOf result MakeFault.Full ↔ IsFull self.old.cells.states.items }
+        ensures full { IsErrOf result MakeFault.Full ↔ IsFull self.old.cells.states }
         ensures nothing { IsErrOf result MakeFault.Full → (self.new.cells.disk ≡ self.old.cells.disk) × (self.new.cells.states ≡ self.old.cells.states) }
-        ensures unclosed { IsErrOf result (Disk false) → IsSure self.old.cells.states.items → ⊥ }
+        ensures unclosed { IsErrOf result (Disk false) → IsSure self.old.cells.states → ⊥ }
         ensures cause { (closed_first : Bool) → IsErrOf result (Disk closed_first) → Rose (D.faults self.old.cells.disk) (D.faults self.new.cells.disk) }
         ensures later { D.faults self.old.cells.disk ≤ D.faults self.new.cells.disk }
     {
@@ -132,17 +131,17 @@ impl<D: Disk> KeyFile<D> {
     /// Destroys the key of a cell. After a fault it is gone or in doubt.
     pub fn destroy(&mut self, id: u32, cell: usize) -> Result<(), Unclosed>
         requires size { D.size self.old.cells.disk ≡ store_size }
-        requires states { length self.old.cells.states.items ≡ cell_count }
+        requires states { length self.old.cells.states ≡ cell_count }
         requires within { cell < cell_count }
-        requires key { has_id id (cell_state self.old.cells.states.items cell) ≡ true }
+        requires key { has_id id (cell_state self.old.cells.states cell) ≡ true }
         ensures size { D.size self.new.cells.disk ≡ store_size }
-        ensures states { length self.new.cells.states.items ≡ cell_count }
-        ensures gone { OnOk result (self.new.cells.states.items ≡ set (settled_states self.old.cells.states.items) cell Free) }
-        ensures missing { settled_states self.new.cells.states.items ≡ set (settled_states self.old.cells.states.items) cell Free }
-        ensures free { StaysFree self.old.cells.states.items self.new.cells.states.items }
+        ensures states { length self.new.cells.states ≡ cell_count }
+        ensures gone { OnOk result (self.new.cells.states ≡ set (settled_states self.old.cells.states) cell Free) }
+        ensures missing { settled_states self.new.cells.states ≡ set (settled_states self.old.cells.states) cell Free }
+        ensures free { StaysFree self.old.cells.states self.new.cells.states }
         ensures destroyed { OnOk result (PutsInFile D.Disk self.old self.new id None) }
         ensures failed { IfErr result (λ fault. LeavesUndestroyed D.Disk self.old self.new id fault.closed_first) }
-        ensures unclosed { IfErr result (λ fault. fault.closed_first ≡ false → IsSure self.old.cells.states.items → ⊥) }
+        ensures unclosed { IfErr result (λ fault. fault.closed_first ≡ false → IsSure self.old.cells.states → ⊥) }
         ensures tells { StillTells (D.contents self.old.cells.disk) (D.contents self.new.cells.disk) }
         ensures cause { HasCause (D.faults self.old.cells.disk) (D.faults self.new.cells.disk) result }
     {
@@ -163,15 +162,16 @@ impl<D: Disk> KeyFile<D> {
 
     /// The creation number of a cell's key.
     pub fn creation(&self, cell: usize) -> u64
-        requires { cell < length self.now.cells.states.items }
-        ensures { result ≡ creation_of_state (cell_state self.now.cells.states.items cell) }
+        requires { cell < length self.now.cells.states }
+        ensures { result ≡ creation_of_state (cell_state self.now.cells.states cell) }
     {
         self.cells.creation(cell)
     }
 
     /// How many keys there are that aren't in doubt.
     pub fn count(&self) -> usize
-        ensures { result ≡ count_by is_open self.now.cells.states.items }
+        ensures count { result ≡ count_by is_open self.now.cells.states }
+        ensures sized { length self.now.cells.states ≡ cell_count }
     {
         self.cells.count()
     }

@@ -5,15 +5,11 @@ use Rattle.admission.specs.Apply.{picked}
 use Rattle.psa_status.specs.Causes.{Rose}
 use Rattle.policy_rules.specs.declared.narrowing.Label.{Label}
 use Rattle.disk_face.specs.Disk.{NoNewImage}
-use Rattle.key_cells.specs.Prelude.{IsFirstDamaged, IsNoStore, IsFoundIn}
-use Rattle.key_cells.specs.declared.reading.OpenFault.{OpenFault}
+use Rattle.key_cells.specs.{Prelude.IsFirstDamaged, Prelude.IsNoStore, Prelude.IsFoundIn, declared.reading.OpenFault.OpenFault}
 use Rattle.key_cells.specs.declared.reading.OpenFault.TheVariants as opening
-use Rattle.command_words.specs.declared.command.Command.TheVariants.{Run, Generate}
-use Rattle.command_words.specs.declared.command.RunOptions.{RunOptions}
-use Rattle.session_host.specs.declared.lines.Unanswered.{Unanswered}
-use Rattle.session_host.specs.declared.lines.Unanswered.TheVariants.{NotOpened}
+use Rattle.command_words.specs.{declared.command.Command.TheVariants.Run, declared.command.Command.TheVariants.Generate, declared.command.RunOptions.RunOptions}
+use Rattle.session_host.specs.{declared.lines.Unanswered.Unanswered, declared.lines.Unanswered.TheVariants.NotOpened, Runs.AreAnswered, Runs.IsUnanswered}
 use Rattle.session_host.specs.declared.lines.Unanswered.TheVariants as unanswered
-use Rattle.session_host.specs.Runs.{AreAnswered, IsUnanswered}
 use Rattle.disk_face.specs.declared.Disk as Disk
 use Rattle.driver_dispatch.specs.declared.devices.Devices as Devices
 use Rattle.admission.specs.declared.rules.Admission as Admission
@@ -91,11 +87,11 @@ module _ {D A C : Type 0} (disks : Disk.Ghosts D) (elements : Devices.Ghosts A) 
   was_found : (replies : List ReplyLine) → Answers replies → IfSome (disks.contents disk) (λ image. HasStore (Some image))
   was_found replies r = found (disks.contents disk) r.answered.run.opening.found.found
     where
-      opens : (image : List ℕ) → IsFoundIn image r.answered.run.opened.file.value.cells.states.items → HasStore (Some image)
+      opens : (image : List ℕ) → IsFoundIn image r.answered.run.opened.file.value.cells.states → HasStore (Some image)
       opens [] h = inl refl
       opens (byte ∷ rest) h = inr h.opens
 
-      found : (t : Option (List ℕ)) → IfSome t (λ image. IsFoundIn image r.answered.run.opened.file.value.cells.states.items) → IfSome t (λ image. HasStore (Some image))
+      found : (t : Option (List ℕ)) → IfSome t (λ image. IsFoundIn image r.answered.run.opened.file.value.cells.states) → IfSome t (λ image. HasStore (Some image))
       found None h = tt
       found (Some image) h = opens image h
 

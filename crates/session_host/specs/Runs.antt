@@ -33,7 +33,7 @@ module _ {D A C : Type 0} (w : World D A C) where
     pub starts : (start : Service) × IsStartOf w start
     pub sound : (start : Service) → IsStartOf w start → IsSoundStore start.store
     pub keys : IfSome (w.disk.contents disk) (FindsKeysOf w.disk w.devices w.rules w.opened)
-    pub found : IsOpened w.disk disk w.opened.file.value.cells.disk w.opened.file.value.cells.states.items
+    pub found : IsOpened w.disk disk w.opened.file.value.cells.disk w.opened.file.value.cells.states
     pub later : w.disk.faults disk ≤ w.disk.faults w.opened.file.value.cells.disk
     pub devices_are : w.opened.devices.value ≡ devices
     pub seed_is : w.opened.seed.value ≡ seed

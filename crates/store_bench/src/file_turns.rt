@@ -28,7 +28,7 @@ pub fn one_byte_key(id: u32) -> Attributes
 /// A new store.
 pub fn new_store(alloc: Global) -> Result<Cells<PlainDisk>, OpenFault>
     ensures size { IfOk result (λ cells. length cells.disk.bytes.items ≡ store_size) }
-    ensures slots { IfOk result (λ cells. length cells.states.items ≡ cell_count) }
+    ensures slots { IfOk result (λ cells. length cells.states ≡ cell_count) }
 {
     match Cells::open(alloc, PlainDisk::new(alloc)) {
         Ok(cells) => Ok(cells),
@@ -39,12 +39,14 @@ pub fn new_store(alloc: Global) -> Result<Cells<PlainDisk>, OpenFault>
 /// Makes a key in each of 512 cells.
 pub fn fill(cells: &mut Cells<PlainDisk>) -> Result<(), CellFault>
     requires size { length cells.old.disk.bytes.items ≡ store_size }
-    requires slots { length cells.old.states.items ≡ cell_count }
+    requires slots { length cells.old.states ≡ cell_count }
     ensures size { length cells.new.disk.bytes.items ≡ store_size }
-    ensures slots { length cells.new.states.items ≡ cell_count }
+    ensures slots { length cells.new.states ≡ cell_count }
 {
     for id in 1..513u32 {
-        cells.create(0, &one_byte_key(id), &[0xa5])?;
+        if cells.find(id).is_none() {
+            cells.create(0, &one_byte_key(id), &[0xa5])?;
+        }
     }
     Ok(())
 }

@@ -1,7 +1,6 @@
 -- A store with one key more.
 use Rattle.store_core.proofs.Common.{[], ap, arith, Attributes, Bool, bytes-buffer_of, cases_eq, cell_state, CellState, cond, count_persistent, counted, created, durable_keys, eq-eqb, eqb-true, false, false≢true, first_volatile, Free, full_slot, get_or-set_other, get_or-set_same, has_secure_element, held_key, HeldKey, HeldKeys, HoldsHandle, HoldsKeys, identified, inl, inr, is_opaque, is_open, is_volatile, is_volatile_of, IsDirectory, IsFirstWithoutKey, IsPut, IsSomeKey, IsSoundStore, IsStated, IsThereOrNew, kept, Key, Lacks, le-ltb, len_kept-insert, length, length-map, List, live_volatile, lt-ltb, made_of, made_with, map_get, map_get-insert, map_len, MayBeKept, Model, nat_cmp_total, nat_lt, ne_eqb, new_id, new_is_free, new_key, next_volatile, None, none-some, of_volatile, Open, Option, option_map, put, Puts, refl, retain_keys, room_of, same_Some, set, settled_state, settled_states, slice_index, slice_set, SlotHasKey, Some, stated_id, stored, subst, sym, true, unsigned_tied, with_held_key, ℕ, ◌+◌, ◌/◌, ◌<◌, ◌==◌, ◌^◌, ◌∙◌, ◌≡◌, ◌≢◌, ◌≤◌, ◌⊎◌, cell_count}
-use Rattle.store_core.proofs.Kept.{HasCellKey}
-use Rattle.store_core.proofs.Removing.{settled_at, settled_opens}
+use Rattle.store_core.proofs.{Kept.HasCellKey, Removing.settled_at, Removing.settled_opens}
 
 module _ (m : Model) (caller : ℕ) (recorded : Attributes) (bytes : List ℕ) (first : 1 ≤ caller) (last : caller ≤ 16) (sound : IsSoundStore m) (may : MayBeKept m caller recorded (length bytes)) where
   abbrev pub id : ℕ

@@ -1,14 +1,9 @@
 -- Turns in which the secure element computes.
 use Rattle.store_core.proofs.Common.{[], AdmissionGhosts, algorithm_asked, all_rows, AnswersCall, ap, attribute_rows, Attributes, Bool, buffer_after, Call, checked, class_asked, cond, Corrupt, counted, DevicesGhosts, Disk, DiskGhosts, element_reply, Entry, eqb-true, Err, Failed, false, false_from_ne_true, false≢true, FaultCounts, FaultMark, filled, first_row, first_row-back, first_row-front, fits_type, Hardware, has_secure_element, HasFault, held_key, HeldKey, HeldKeys, HoldsHandle, identified, inl, InvalidHandle, is_opaque, is_opaque_key, is_persistent_key, is_some, is_volatile, IsComputed, IsElementAnswered, IsEntry, IsErrOf, IsOfElement, IsRefused, IsSomeKey, IsSoundStore, IsTold, IsTrue, IsVolatileKey, Key, key_rows, KeyUse, last_counts, length, List, location, map_get, mark_computed, marked_reply, MatchOption, may_change_keys, MayBeMarked, Missing, Model, model_call, None, none_holds, not, not-false, Ok, OnStore, Opening, Option, Pairs, persistence, refl, refusal, Refused, replay, reply_on, reply_to, reply_unless, Result, Rose, rows_before, Service, Some, StandsFor, Status, status_of, Store, subst, sym, true, true_from_ne_false, unless, unless-ok, Unread, usage_asked, use_refusal, use_rows, ℕ, ◌&&◌, ◌++◌, ◌==◌, ◌||◌, ◌∙◌, ◌∷◌, ◌≡◌}
 use Rattle.alg_encoding.specs.declared.table.Class.{Class}
-use Rattle.secure_element_calls.specs.declared.calls.ElementCall.{ElementCall}
-use Rattle.secure_element_calls.specs.declared.calls.ElementCall.TheVariants.{MacCompute, MacVerify, CtrEncrypt, CtrDecrypt}
-use Rattle.secure_element_calls.specs.declared.calls.NotComputed.{NotComputed}
+use Rattle.secure_element_calls.specs.{declared.calls.ElementCall.ElementCall, declared.calls.ElementCall.TheVariants.MacCompute, declared.calls.ElementCall.TheVariants.MacVerify, declared.calls.ElementCall.TheVariants.CtrEncrypt, declared.calls.ElementCall.TheVariants.CtrDecrypt, declared.calls.NotComputed.NotComputed}
 use Rattle.secure_element_calls.proofs.Replying.{asks}
-use Rattle.store_core.proofs.Missing.{is_other}
-use Rattle.store_core.proofs.Histories.{told_before, quiet_leaves}
-use Rattle.store_core.proofs.Holding.{turned, carries, left_alone}
-use Rattle.store_core.proofs.Changing.{ends_quiet}
+use Rattle.store_core.proofs.{Missing.is_other, Histories.told_before, Histories.quiet_leaves, Holding.turned, Holding.carries, Holding.left_alone, Changing.ends_quiet}
 
 -- THE KEY
 

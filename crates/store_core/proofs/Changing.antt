@@ -29,15 +29,15 @@ module _ {D A C : Type 0} (disks : DiskGhosts D) (elements : DevicesGhosts A) (a
     pub kept : count_persistent m'.keys ≡ new.kept
     pub slots : Agrees new.slots.table.slots m' all
     pub holdings : AreHoldings all
-    pub directory : IsDirectory new.file.cells.states.items m'
+    pub directory : IsDirectory new.file.cells.states m'
     pub device : HoldsKeys (elements.keys new.devices) m'
     pub tells : is_some (disks.contents new.file.cells.disk) ≡ is_some (disks.contents old.file.cells.disk)
-    pub leads : (s : Course) → S s.service → m ≡ s.service.store → StandsForKeys disks old.file.cells.disk old.file.cells.states.items (durable_keys m) s.doubt →
-        Leads disks old.file.cells.disk new.file.cells.disk old.file.cells.states.items new.file.cells.states.items (durable_keys m) s.doubt (durable_keys m') (doubt_after e s)
+    pub leads : (s : Course) → S s.service → m ≡ s.service.store → StandsForKeys disks old.file.cells.disk old.file.cells.states (durable_keys m) s.doubt →
+        Leads disks old.file.cells.disk new.file.cells.disk old.file.cells.states new.file.cells.states (durable_keys m) s.doubt (durable_keys m') (doubt_after e s)
     pub frees : (service : Service) → S service → m ≡ service.store →
-        MovesFree (is_persistent_key (key_changed service e.caller e.call)) (is_destruction e.call) mark old.file.cells.states.items new.file.cells.states.items
+        MovesFree (is_persistent_key (key_changed service e.caller e.call)) (is_destruction e.call) mark old.file.cells.states new.file.cells.states
     -- where nothing is in doubt afterwards, no cell is
-    pub settles : (s : Course) → S s.service → m ≡ s.service.store → (s.doubt ≡ [] → IsSure old.file.cells.states.items) → doubt_after e s ≡ [] → IsSure new.file.cells.states.items
+    pub settles : (s : Course) → S s.service → m ≡ s.service.store → (s.doubt ≡ [] → IsSure old.file.cells.states) → doubt_after e s ≡ [] → IsSure new.file.cells.states
     pub fault : HasFault (is_some (disks.contents new.file.cells.disk)) before e mark
     pub may : (service : Service) → S service → m ≡ service.store → MayBeMarked service e.caller e.call mark
 
@@ -76,7 +76,7 @@ module _ {D A C : Type 0} (disks : DiskGhosts D) (elements : DevicesGhosts A) (a
       after_course : m' ≡ (after e course).service.store
       after_course = t.becomes course.service before_course of_course
 
-      leads_here : Leads disks past now old.file.cells.states.items new.file.cells.states.items (durable_keys m) course.doubt (durable_keys m') (doubt_after e course)
+      leads_here : Leads disks past now old.file.cells.states new.file.cells.states (durable_keys m) course.doubt (durable_keys m') (doubt_after e course)
       leads_here = t.leads course before_course of_course (s.file (tells_before is))
 
       fits_old : (image : List ℕ) → FitsKeys (durable_keys m) course.doubt image → FitsCourse course image
@@ -91,12 +91,12 @@ module _ {D A C : Type 0} (disks : DiskGhosts D) (elements : DevicesGhosts A) (a
         each = λ at image le left. ⊎_elim (λ had. inl had) (λ fits. inr (⊎_elim (λ f. inl (fits_old image f)) (λ f. inr (fits_new image f)) fits)) (leads_here.within.each at image le left);
       }
 
-      free_now : (cell : ℕ) → cell < cell_count → cell_state new.file.cells.states.items cell ≡ Free → (image : List ℕ) → disks.left_since now (disks.moment now) image → HasZeros cell image
+      free_now : (cell : ℕ) → cell < cell_count → cell_state new.file.cells.states cell ≡ Free → (image : List ℕ) → disks.left_since now (disks.moment now) image → HasZeros cell image
       free_now cell lt free image left = shows_free _ _ _ _ free ((leads_here.stands.stands.each image (only_now now image left)).each cell lt)
 
       fits_now : (image : List ℕ) → disks.left_since now (disks.moment now) image → FitsCourse (after e course) image
       fits_now image left =
-          fits_new image (stands_fits disks now new.file.cells.states.items (durable_keys m') (doubt_after e course) image leads_here.stands (only_now now image left))
+          fits_new image (stands_fits disks now new.file.cells.states (durable_keys m') (doubt_after e course) image leads_here.stands (only_now now image left))
 
     pub turns : IsEntry disks elements admits new mark e → (n : StandsFor disks elements admits new start opening (h ++ e ∷ []) more) × (n.holds.model ≡ m')
     turns is = (record { holds = holds; counts = counts_push opening.counts h e ∙ counted_here }, refl)
@@ -104,11 +104,11 @@ module _ {D A C : Type 0} (disks : DiskGhosts D) (elements : DevicesGhosts A) (a
         counted_here : counts_of e.faults e.device_faults ≡ counts_of (disks.faults now) (elements.faults new.devices)
         counted_here = ap (λ (n : ℕ). counts_of n e.device_faults) is.disk_faults ∙ ap (counts_of (disks.faults now)) is.device_faults
 
-        freed_here : is_some (disks.contents now) ≡ true → HaveFreed (IsFreeSince disks now new.file.cells.states.items) start (h ++ e ∷ [])
+        freed_here : is_some (disks.contents now) ≡ true → HaveFreed (IsFreeSince disks now new.file.cells.states) start (h ++ e ∷ [])
         freed_here tells =
             let past_freed = s.freed (tells_before tells) in
             let service = replay start h in
-            let then = frees disks past now old.file.cells.states.items new.file.cells.states.items (leads_here tells).zeros (free_now tells) (is_persistent_key (key_changed service e.caller e.call)) (is_destruction e.call) mark
+            let then = frees disks past now old.file.cells.states new.file.cells.states (leads_here tells).zeros (free_now tells) (is_persistent_key (key_changed service e.caller e.call)) (is_destruction e.call) mark
             (t.frees service (holds_before (inl tells)) (s.replayed (know (inl tells)))) past_freed.0 past_freed.2 in (
               then.0,
               freed_push start h e [] past_freed.0 then.0 past_freed.1
@@ -136,7 +136,7 @@ module _ {D A C : Type 0} (disks : DiskGhosts D) (elements : DevicesGhosts A) (a
           holdings = t.holdings;
           directory = t.directory;
           device = t.device;
-          file = λ tells. subst (StandsForKeys disks now new.file.cells.states.items (durable_keys m')) (sym (ap (λ (c : Course). c.doubt) (course_push start h e))) (leads_here tells).stands;
+          file = λ tells. subst (StandsForKeys disks now new.file.cells.states (durable_keys m')) (sym (ap (λ (c : Course). c.doubt) (course_push start h e))) (leads_here tells).stands;
           sure = λ tells none. t.settles course (before_course tells) (of_course tells) (s.sure (tells_before tells)) (sym (ap (λ (c : Course). c.doubt) (course_push start h e)) ∙ none);
           promise = λ tells. promise_goes_on after FitsCourse (opened start) (λ (x : Entry). x.done) (disks.left_since past) (disks.left_since now) (disks.moment past) (disks.moment now) opening.moment h e (s.promise (tells_before tells))
               (within_here tells) (fits_now tells) is.done;
@@ -169,11 +169,11 @@ module _ {D A C : Type 0} (disks : DiskGhosts D) (elements : DevicesGhosts A) (a
     abbrev pub ended : KeyFile D → Store D A C
     ended file = record old { file = file; slots = slots; devices = devices; ranked = old.ranked + 1 }
 
-    pub unmade : (file : KeyFile D) → IsDirectory file.cells.states.items s.model → is_some (disks.contents file.cells.disk) ≡ is_some (disks.contents old.file.cells.disk) →
-        ((c : Course) → S c.service → s.model ≡ c.service.store → StandsForKeys disks old.file.cells.disk old.file.cells.states.items (durable_keys s.model) c.doubt →
-        Leads disks old.file.cells.disk file.cells.disk old.file.cells.states.items file.cells.states.items (durable_keys s.model) c.doubt (durable_keys s.model) (doubt_after e c)) →
-        ((c : Course) → S c.service → s.model ≡ c.service.store → (c.doubt ≡ [] → IsSure old.file.cells.states.items) → doubt_after e c ≡ [] → IsSure file.cells.states.items) →
-        ((service : Service) → S service → s.model ≡ service.store → MovesFree (is_persistent_key (key_changed service e.caller e.call)) (is_destruction e.call) mark old.file.cells.states.items file.cells.states.items) →
+    pub unmade : (file : KeyFile D) → IsDirectory file.cells.states s.model → is_some (disks.contents file.cells.disk) ≡ is_some (disks.contents old.file.cells.disk) →
+        ((c : Course) → S c.service → s.model ≡ c.service.store → StandsForKeys disks old.file.cells.disk old.file.cells.states (durable_keys s.model) c.doubt →
+        Leads disks old.file.cells.disk file.cells.disk old.file.cells.states file.cells.states (durable_keys s.model) c.doubt (durable_keys s.model) (doubt_after e c)) →
+        ((c : Course) → S c.service → s.model ≡ c.service.store → (c.doubt ≡ [] → IsSure old.file.cells.states) → doubt_after e c ≡ [] → IsSure file.cells.states) →
+        ((service : Service) → S service → s.model ≡ service.store → MovesFree (is_persistent_key (key_changed service e.caller e.call)) (is_destruction e.call) mark old.file.cells.states file.cells.states) →
         IsEntry disks elements admits (ended file) mark e → (n : StandsFor disks elements admits (ended file) start opening (h ++ e ∷ []) more) × (n.holds.model ≡ counted s.model)
     unmade file directory tells leads settles frees is =
         let told = retold (disks.contents old.file.cells.disk) (disks.contents file.cells.disk) start (h ++ e ∷ []) tells in
@@ -188,7 +188,7 @@ module _ {D A C : Type 0} (disks : DiskGhosts D) (elements : DevicesGhosts A) (a
           kept = s.kept;
           slots = quiet slots.table.slots s.model (counted s.model) more agrees (record { keys = refl; given = omega arith });
           holdings = holdings;
-          directory = same_directory file.cells.states.items s.model directory;
+          directory = same_directory file.cells.states s.model directory;
           device = device;
           tells = tells;
           leads = leads;
@@ -202,10 +202,10 @@ module _ {D A C : Type 0} (disks : DiskGhosts D) (elements : DevicesGhosts A) (a
     pub leaves : ((c : Course) → S c.service → doubt_after e c ≡ c.doubt) → ((service : Service) → S service → (is_persistent_key (key_changed service e.caller e.call) ≡ false) ⊎ (is_destruction e.call ≡ false)) →
         IsEntry disks elements admits (ended old.file) mark e → (n : StandsFor disks elements admits (ended old.file) start opening (h ++ e ∷ []) more) × (n.holds.model ≡ counted s.model)
     leaves doubts keeps = unmade old.file s.directory refl
-        (λ c known at stands. subst (Leads disks old.file.cells.disk old.file.cells.disk old.file.cells.states.items old.file.cells.states.items (durable_keys s.model) c.doubt (durable_keys s.model)) (sym (doubts c known))
-        (stays disks old.file.cells.disk old.file.cells.states.items (durable_keys s.model) (durable_keys s.model) c.doubt (λ q. refl) stands))
+        (λ c known at stands. subst (Leads disks old.file.cells.disk old.file.cells.disk old.file.cells.states old.file.cells.states (durable_keys s.model) c.doubt (durable_keys s.model)) (sym (doubts c known))
+        (stays disks old.file.cells.disk old.file.cells.states (durable_keys s.model) (durable_keys s.model) c.doubt (λ q. refl) stands))
         (λ c known at sure none. sure (sym (doubts c known) ∙ none))
-        (λ service known at. unmoved (is_persistent_key (key_changed service e.caller e.call)) (is_destruction e.call) mark old.file.cells.states.items (keeps service known))
+        (λ service known at. unmoved (is_persistent_key (key_changed service e.caller e.call)) (is_destruction e.call) mark old.file.cells.states (keeps service known))
 
   -- one whose request leaves all keys
   pub ends_quiet : {more : List Pairs} {K : Type 0} (mark : FaultMark) (slots : KeySlots) (s : Holds disks elements admits K old start opening h all) → (IsTold (disks.contents old.file.cells.disk) start (h ++ e ∷ []) → K) →

@@ -2,11 +2,7 @@
 use Rattle.store_core.proofs.Common.{[], AdmissionGhosts, Agrees, ap, AreHoldings, Attributes, Bool, Buffer, buffer_of, bytes-buffer_of, bytes_of, cond, Copy, Corrupt, created_unless, DevicesGhosts, Disk, DiskGhosts, Entry, Err, false, FaultCounts, HasModel, Holds, HoldsHandle, id_read, if◌then◌else◌, inl, InvalidHandle, is_destruction, is_opaque, is_persistent_key, is_some, IsAboutToCreate, IsEntry, IsErrOf, IsMaking, IsMaterial, IsRefused, IsTold, Key, KeySlots, length, List, map_get, mark_of, Missing, Model, None, Ok, OnStore, Opening, Option, Outcome, Pairs, plain_step, Reading, reads_persistent, recorded_copy, recorded_of, refl, replay, Request, Result, Rose, Service, Slot, SlotHasKey, Some, StandsFor, Status, status_of, Storage, Store, subst, sym, there_rows, true, Unread, ℕ, ◌++◌, ◌+◌, ◌∙◌, ◌∷◌, ◌≡◌}
 use Rattle.store_model.specs.KeyUse as key_use
 use Rattle.store_model.specs.Faults as fault
-use Rattle.store_core.proofs.Holding.{has_model, with_buffer}
-use Rattle.store_core.proofs.Loading.{reads_it}
-use Rattle.store_core.proofs.Makes.{IsRefusedAt}
-use Rattle.store_core.proofs.Copied.{copies}
-use Rattle.store_core.proofs.Finishing.{refuses, unread}
+use Rattle.store_core.proofs.{Holding.has_model, Holding.with_buffer, Loading.reads_it, Makes.IsRefusedAt, Copied.copies, Finishing.refuses, Finishing.unread}
 
 -- the bytes of the key of an identifier
 abbrev pub bytes_at : Model → ℕ → List ℕ

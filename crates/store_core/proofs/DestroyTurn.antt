@@ -28,7 +28,7 @@ module _ {D A C : Type 0} (disks : DiskGhosts D) (elements : DevicesGhosts A) (a
   disk = old.file.cells.disk
 
   abbrev cells : List CellState
-  cells = old.file.cells.states.items
+  cells = old.file.cells.states
 
   abbrev StandsOld : Type 0
   StandsOld = StandsFor disks elements admits old start opening h all
@@ -55,13 +55,13 @@ module _ {D A C : Type 0} (disks : DiskGhosts D) (elements : DevicesGhosts A) (a
   pub record IsUnfiled (file : KeyFile D) (mark : FaultMark) (c : ℕ) : Type 0 where
     pub within : c < cell_count
     pub key : has_id id (cell_state cells c) ≡ true
-    pub sized : length file.cells.states.items ≡ cell_count
-    pub missing : settled_states file.cells.states.items ≡ set (settled_states cells) c Free
+    pub sized : length file.cells.states ≡ cell_count
+    pub missing : settled_states file.cells.states ≡ set (settled_states cells) c Free
     pub tells : is_some (disks.contents file.cells.disk) ≡ is_some (disks.contents disk)
     pub leads : (keys keys' : Keys) (doubt : Doubt) (key : Stored) → StandsForKeys disks disk cells keys doubt → keys id ≡ Some key → IsPut keys keys' id None →
-        Leads disks disk file.cells.disk cells file.cells.states.items keys doubt keys' (doubt_by mark true key doubt)
-    pub frees : MovesFree true true mark cells file.cells.states.items
-    pub settles : (key : Stored) (doubt : Doubt) → doubt_by mark true key doubt ≡ [] → IsSure file.cells.states.items
+        Leads disks disk file.cells.disk cells file.cells.states keys doubt keys' (doubt_by mark true key doubt)
+    pub frees : MovesFree true true mark cells file.cells.states
+    pub settles : (key : Stored) (doubt : Doubt) → doubt_by mark true key doubt ≡ [] → IsSure file.cells.states
 
   -- a store without a key of its file
   abbrev pub unfiled : KeyFile D → KeySlots → Store D A C
@@ -91,14 +91,14 @@ module _ {D A C : Type 0} (disks : DiskGhosts D) (elements : DevicesGhosts A) (a
         kept = omega (arith, fewer, was);
         slots = forgets m (gone m id) all s.holds.slots s.holds.sound (takes_out m id);
         holdings = s.holds.holdings;
-        directory = directory_emptied m id key there cells file.cells.states.items c (creation_of_state (cell_state cells c)) (record { sized = f.sized; inside = f.within; settled = f.missing }) (opens_with (cell_state cells c) id f.key) s.holds.directory;
+        directory = directory_emptied m id key there cells file.cells.states c (creation_of_state (cell_state cells c)) (record { sized = f.sized; inside = f.within; settled = f.missing }) (opens_with (cell_state cells c) id f.key) s.holds.directory;
         device = device_stays m id key there (elements.keys old.devices) s.holds.device;
         tells = f.tells;
-        leads = λ course known same stands. subst (Leads disks disk file.cells.disk cells file.cells.states.items (durable_keys m) course.doubt (durable_keys (gone m id)))
+        leads = λ course known same stands. subst (Leads disks disk file.cells.disk cells file.cells.states (durable_keys m) course.doubt (durable_keys (gone m id)))
             (sym (doubt_here e id call course mark _ is.marked (ap (λ (x : Model). durable_keys x id) (sym same) ∙ kept_here m id key there false persistent)))
             (f.leads (durable_keys m) (durable_keys (gone m id)) course.doubt (stored key.number key.attributes key.bytes) stands (kept_here m id key there false persistent) (without_kept m id));
-        frees = λ service known same. subst (λ b. MovesFree (is_persistent_key (key_changed service e.caller e.call)) b mark cells file.cells.states.items) (sym (ap is_destruction call))
-            (subst (λ b. MovesFree b true mark cells file.cells.states.items) (sym (ap is_persistent_key (changes_it e id call service ∙ (ap (λ (x : Model). map_get x.keys id) (sym same) ∙ there)) ∙ ap not persistent)) f.frees);
+        frees = λ service known same. subst (λ b. MovesFree (is_persistent_key (key_changed service e.caller e.call)) b mark cells file.cells.states) (sym (ap is_destruction call))
+            (subst (λ b. MovesFree b true mark cells file.cells.states) (sym (ap is_persistent_key (changes_it e id call service ∙ (ap (λ (x : Model). map_get x.keys id) (sym same) ∙ there)) ∙ ap not persistent)) f.frees);
         settles = λ course known same sure none. f.settles (stored key.number key.attributes key.bytes) course.doubt
             (sym (doubt_here e id call course mark _ is.marked (ap (λ (x : Model). durable_keys x id) (sym same) ∙ kept_here m id key there false persistent)) ∙ none);
         fault = fault;

@@ -2,10 +2,7 @@
 use Rattle.store_core.proofs.Common.{[], AdmissionGhosts, Agrees, ap, AreHoldings, arith, Attributes, Buffer, created_unless, DevicesGhosts, DiskGhosts, Doubt, doubt_by, Entry, Err, false, FaultCounts, FaultMark, Hardware, HasFault, Holds, inl, inr, InvalidHandle, is_destruction, is_some, IsCreating, IsEntry, IsMaking, IsSince, IsTold, kept, key_changed, KeySlots, last_counts, List, MayBeMarked, Model, None, Ok, Opening, Option, option_map_or, Pairs, Plain, Reading, reads_persistent, recorded_of, RecordsStated, refl, replay, Result, serve, Service, Some, StandsFor, Status, Storage, Store, Stored, subst, sym, true, Writing, ℕ, ◌++◌, ◌+◌, ◌∙◌, ◌∷◌, ◌≡◌, ◌≤◌}
 use Rattle.slot_table.specs.Lent as lent
 use Rattle.store_model.specs.Prelude.{Corrupt}
-use Rattle.store_core.proofs.Histories.{told_before}
-use Rattle.store_core.proofs.Holding.{goes_on, left_alone, same_device, counts_of}
-use Rattle.store_core.proofs.Changing.{leaves}
-use Rattle.store_core.proofs.Makes.{IsFailure, IsRefusedAt, marked_counts, plain_counts, doubted, changes_none}
+use Rattle.store_core.proofs.{Histories.told_before, Holding.goes_on, Holding.left_alone, Holding.same_device, Holding.counts_of, Changing.leaves, Makes.IsFailure, Makes.IsRefusedAt, Makes.marked_counts, Makes.plain_counts, Makes.doubted, Makes.changes_none}
 
 -- what is recorded of stated attributes, where nothing refuses it
 pub stated_ok : (lease : Option lent.Reading) (caller : ℕ) (a : Attributes) (n : ℕ) (m : Model) (recorded : Attributes) → RecordsStated lease caller a n m (Ok recorded) → recorded_of m caller a n ≡ Ok recorded

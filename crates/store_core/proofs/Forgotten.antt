@@ -1,7 +1,6 @@
 -- What a device has of the keys that are destroyed.
 use Rattle.store_core.proofs.Common.{Agrees, ap, cell_state, CellState, cond, false, false_from_ne_true, false≢true, has_id, HeldKeys, holds_key, is_opaque, is_volatile, IsDirectory, IsForgotten, IsLawful, IsSoundStore, Key, key_of_slot, List, Model, Option, option_map, Pairs, same_Some, Slot, slot_at, subst, sym, Table, true, without_key, ℕ, ◌<◌, ◌∙◌, ◌≡◌, cell_count}
-use Rattle.store_core.proofs.ByElement.{opaque_is_volatile}
-use Rattle.store_core.proofs.Kept.{key_of_cell}
+use Rattle.store_core.proofs.{ByElement.opaque_is_volatile, Kept.key_of_cell}
 
 -- a device had no key of a slot that isn't the element's
 pub local_forgotten : (slot : Slot) (held : Option HeldKeys) → is_opaque slot.attributes ≡ false → IsForgotten slot held held

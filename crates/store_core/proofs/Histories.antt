@@ -1,11 +1,7 @@
 -- A history with one more entry.
 use Rattle.store_core.proofs.Common.{[], AdmissionGhosts, after, after_all, after_all_push, ap, Bool, counted, Course, course_of, decided, Destroy, destroy_rows, destroyed, DevicesGhosts, DiskGhosts, doubt_after, doubt_by, Entry, false, false≢true, FaultCounts, FaultMark, first_row, FitsCourse, inl, inr, InvalidHandle, is_destruction, IsTold, kept, Key, key_changed, last_counts, LeavesKeys, List, map_get, may_change_keys, next_random, None, not, OnHandle, OnStore, opened, Option, option_map_or, outcome_of, own_of, Plain, plain_step, reads_persistent, ReadsNone, refl, replay, Reply, Request, serve, Service, Some, Stored, subst, Success, sym, true, ℕ, ◌&&◌, ◌++◌, ◌==◌, ◌∙◌, ◌∷◌, ◌≡◌}
 use Rattle.store_model.specs.Prelude.{Store}
-use Rattle.store_model.proofs.DrawnBytes.{length-random}
-use Rattle.store_model.proofs.StoreShape.{MakesNone, store_shape}
-use Rattle.store_model.proofs.Shape.{shape}
-use Rattle.store_model.proofs.Others.{leaves_shared}
-use Rattle.store_model.proofs.LeftAll.{leaves_all}
+use Rattle.store_model.proofs.{DrawnBytes.length-random, StoreShape.MakesNone, StoreShape.store_shape, Shape.shape, Others.leaves_shared, LeftAll.leaves_all}
 use Rattle.store_core.specs.declared.store.Store as core
 
 pub replay_push : (service : Service) (h : List Entry) (e : Entry) → replay service (h ++ e ∷ []) ≡ (outcome_of (replay service h) e).service

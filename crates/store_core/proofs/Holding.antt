@@ -1,7 +1,6 @@
 -- A store that holds keys, after a turn that leaves all.
 use Rattle.store_core.proofs.Common.{AdmissionGhosts, after, Agrees, ap, AreHoldings, arith, Buffer, cell_state, counted, course_of, DevicesGhosts, DiskGhosts, Doubt, durable_keys, Entry, FaultCounts, fits_least, fits_whole, FitsCourse, FitsEitherKeys, FitsFrom, FitsKeys, HasModel, HeldKeys, Holds, HoldsKeys, inl, inr, is_some, IsCaused, IsDirectory, IsSure, IsTold, KeepsPromise, KeyFile, Keys, KeySlots, Leads, length, List, Model, opened, Opening, Option, Pairs, refl, Service, StandsFor, StandsForKeys, stays, Store, subst, sym, true, Within, ℕ, ⊎_elim, ◌+◌, ◌∙◌, ◌≡◌, ◌≤◌, ◌⊎◌}
-use Rattle.store_core.proofs.Freeing.{all_still}
-use Rattle.store_core.proofs.Histories.{course_service}
+use Rattle.store_core.proofs.{Freeing.all_still, Histories.course_service}
 
 -- calls after which a crash leaves the keys of now keep the promise of the same history
 pub promise_stays : (past since : ℕ → List ℕ → Type 0) (before now opening : ℕ) (start : Service) (h : List Entry) (P : List ℕ → Type 0) → KeepsPromise after FitsCourse (λ (e : Entry). e.done) past before opening (opened start) h →
@@ -39,14 +38,14 @@ module _ {D A C : Type 0} (disks : DiskGhosts D) (elements : DevicesGhosts A) (a
   pub record IsReadOn (old new : KeyFile D) : Type 0 where
     pub same : disks.contents new.cells.disk ≡ disks.contents old.cells.disk
     pub slots : new.cells.states ≡ old.cells.states
-    pub keeps : (keys : Keys) (doubt : Doubt) → StandsForKeys disks old.cells.disk old.cells.states.items keys doubt →
-        Leads disks old.cells.disk new.cells.disk old.cells.states.items new.cells.states.items keys doubt keys doubt
+    pub keeps : (keys : Keys) (doubt : Doubt) → StandsForKeys disks old.cells.disk old.cells.states keys doubt →
+        Leads disks old.cells.disk new.cells.disk old.cells.states new.cells.states keys doubt keys doubt
 
   pub left_alone : (file : KeyFile D) → IsReadOn file file
   left_alone file = record {
     same = refl;
     slots = refl;
-    keeps = λ keys doubt s. stays disks file.cells.disk file.cells.states.items keys keys doubt (λ id. refl) s;
+    keeps = λ keys doubt s. stays disks file.cells.disk file.cells.states keys keys doubt (λ id. refl) s;
   }
 
   -- the model of a store
@@ -74,15 +73,15 @@ module _ {D A C : Type 0} (disks : DiskGhosts D) (elements : DevicesGhosts A) (a
       ranked = s.ranked;
       slots = agrees;
       holdings = holdings;
-      directory = subst (λ (c : _). IsDirectory c.items s.model) (sym read.slots) s.directory;
+      directory = subst (λ (c : _). IsDirectory c s.model) (sym read.slots) s.directory;
       device = subst (λ (held : Option HeldKeys). HoldsKeys held s.model) (sym keys) s.device;
       file = λ is. (leads is).stands;
-      sure = λ is none. subst (λ (c : _). IsSure c.items) (sym read.slots) (s.sure (before is) none);
+      sure = λ is none. subst (λ (c : _). IsSure c) (sym read.slots) (s.sure (before is) none);
       promise = λ is. promise_stays (disks.left_since old.file.cells.disk) (disks.left_since file.cells.disk) (disks.moment old.file.cells.disk) (disks.moment file.cells.disk) opening.moment start h
           (FitsEitherKeys (durable_keys s.model) (course_of start h).doubt (durable_keys s.model) (course_of start h).doubt) (s.promise (before is)) (leads is).within
           (λ image fits. subst (λ (x : Model). FitsKeys (durable_keys x) (course_of start h).doubt image) (s.replayed (told (before is)) ∙ ap (λ (x : Service). x.store) (sym (course_service start h))) (⊎_elim (λ f. f) (λ f. f) fits));
       freed = λ is. let f = s.freed (before is) in
-          (f.0, f.1, all_still disks old.file.cells.disk file.cells.disk old.file.cells.states.items file.cells.states.items (leads is).zeros (λ cell lt free. ap (λ (c : _). cell_state c.items cell) read.slots ∙ free) f.0 f.2);
+          (f.0, f.1, all_still disks old.file.cells.disk file.cells.disk old.file.cells.states file.cells.states (leads is).zeros (λ cell lt free. ap (λ (c : _). cell_state c cell) read.slots ∙ free) f.0 f.2);
       caused = subst (λ (t : Option (List ℕ)). IsCaused (is_some t) opening.counts h) (sym read.same) s.caused;
       allowed = λ t. s.allowed (subst (λ (o : Option (List ℕ)). IsTold o start h) read.same t);
     },
@@ -92,7 +91,7 @@ module _ {D A C : Type 0} (disks : DiskGhosts D) (elements : DevicesGhosts A) (a
     before is = ap is_some (sym read.same) ∙ is
 
     leads : is_some (disks.contents file.cells.disk) ≡ true →
-        Leads disks old.file.cells.disk file.cells.disk old.file.cells.states.items file.cells.states.items (durable_keys s.model) (course_of start h).doubt (durable_keys s.model) (course_of start h).doubt
+        Leads disks old.file.cells.disk file.cells.disk old.file.cells.states file.cells.states (durable_keys s.model) (course_of start h).doubt (durable_keys s.model) (course_of start h).doubt
     leads is = read.keeps (durable_keys s.model) (course_of start h).doubt (s.file (before is))
 
   module _ (old : Store D A C) (start : Service) (opening : Opening) (h : List Entry) where

@@ -77,19 +77,19 @@ module _ {D A C : Type 0} (disks : DiskGhosts D) (elements : DevicesGhosts A) (a
 
   module _ (id c : ℕ) (a : Attributes) (bytes : List ℕ) where
     abbrev number : ℕ
-    number = creation_of_state (cell_state old.file.cells.states.items c)
+    number = creation_of_state (cell_state old.file.cells.states c)
 
     abbrev IsFound : Type 0
     IsFound = (n : HoldsAfter) × HasLoaded n.model id number a bytes
 
     -- the store holds the key that was loaded, in its slot
     pub loads : IsReadOn disks elements admits old.file file → (s : HoldsBefore) →
-        (IsTold told_here start h → id_read (replay start h) e.caller e.call ≡ Some id) → c < cell_count → has_id id (cell_state old.file.cells.states.items c) ≡ true → IsKeyOf a bytes → a.id.0 ≡ id →
+        (IsTold told_here start h → id_read (replay start h) e.caller e.call ≡ Some id) → c < cell_count → has_id id (cell_state old.file.cells.states c) ≡ true → IsKeyOf a bytes → a.id.0 ≡ id →
         (is_some told_here ≡ true → durable_keys s.model id ≡ Some (stored number a bytes)) → NoKey id old.slots.table.slots →
         ((m : Model) → Agrees old.slots.table.slots m all → HasLoaded m id number a bytes → Agrees slots.table.slots m all) → IsFound
     loads read s reads lt has key named filed none fills = go (is_some told_here) refl where
       own : HasCellKey s.model id number
-      own = key_of_cell old.file.cells.states.items s.model id c s.directory lt has
+      own = key_of_cell old.file.cells.states s.model id c s.directory lt has
 
       blind_again : is_some told_here ≡ false → is_some (disks.contents file.cells.disk) ≡ true → ⊥
       blind_again blind tells = false≢true (sym blind ∙ (ap is_some (sym read.same) ∙ tells))
@@ -117,7 +117,7 @@ module _ {D A C : Type 0} (disks : DiskGhosts D) (elements : DevicesGhosts A) (a
               ranked = s.ranked;
               slots = fills (replaced s.model id new) (agrees_after s.model id own.0 a bytes own.1 own.2 key named old.slots.table.slots all none s.slots) there;
               holdings = s.holdings;
-              directory = subst (λ (l : _). IsDirectory l.items (replaced s.model id new)) (sym read.slots) (directory_after s.model id own.0 a bytes own.1 own.2 key named old.file.cells.states.items s.directory);
+              directory = subst (λ (l : _). IsDirectory l (replaced s.model id new)) (sym read.slots) (directory_after s.model id own.0 a bytes own.1 own.2 key named old.file.cells.states s.directory);
               device = device_after s.model id own.0 a bytes own.1 own.2 key named (elements.keys old.devices) s.device;
               file = λ tells. absurd (blind_again blind tells);
               sure = λ tells none. absurd (blind_again blind tells);

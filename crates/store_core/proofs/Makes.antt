@@ -1,8 +1,6 @@
 -- A ranked turn that creates a key.
 use Rattle.store_core.proofs.Common.{[], AdmissionGhosts, Agrees, ap, AreHoldings, arith, Attributes, Bool, cond, count_persistent, counted, Course, created, created_sound, Destroy, DevicesGhosts, DiskGhosts, Doubt, doubt_after, doubt_by, durable_keys, Entry, failed_step, false, false≢true, FaultMark, Holds, HoldsKeys, is_destruction, is_persistent_key, is_some, is_volatile, IsDirectory, IsEntry, IsSure, IsTold, kept, Key, key_answered, key_changed, Leads, length, List, live_volatile, map_get, MayBeKept, min, Model, new_id, new_key, None, not, OnHandle, OnStore, Opening, Option, option_map_or, outcome_of, Pairs, Plain, plain_step, refl, refusal, replay, Reply, Request, Rose, serve, Service, slice_index, Some, StandsFor, StandsForKeys, Status, Store, Stored, stored, subst, sym, true, ℕ, ◌++◌, ◌+◌, ◌-◌, ◌^◌, ◌∙◌, ◌∷◌, ◌≡◌, ◌≤◌}
-use Rattle.store_core.proofs.Changing.{IsRankedOn, retold, turns}
-use Rattle.store_core.proofs.Added.{put_here}
-use Rattle.store_core.proofs.Freeing.{MovesFree}
+use Rattle.store_core.proofs.{Changing.IsRankedOn, Changing.retold, Changing.turns, Added.put_here, Freeing.MovesFree}
 
 -- THE REQUEST
 
@@ -91,18 +89,18 @@ module _ {D A C : Type 0} (disks : DiskGhosts D) (elements : DevicesGhosts A) (a
     pub live : (caller : ℕ) → caller ≤ 16 → live_volatile m'.keys caller ≡ slice_index new.live caller
     pub kept : count_persistent m'.keys ≡ new.kept
     pub slots : Agrees new.slots.table.slots m' less
-    pub directory : IsDirectory new.file.cells.states.items m'
+    pub directory : IsDirectory new.file.cells.states m'
     pub device : HoldsKeys (elements.keys new.devices) m'
     pub tells : is_some (disks.contents new.file.cells.disk) ≡ is_some (disks.contents disk)
 
   -- a key was made
   pub makes : (caller : ℕ) (recorded : Attributes) (bytes : List ℕ) (s : HoldsOld) → 1 ≤ caller → caller ≤ 16 → MayBeKept s.model caller recorded (length bytes) → is_destruction e.call ≡ false →
       (IsTold (disks.contents disk) start (h ++ e ∷ []) → IsMakingAt e caller recorded bytes (replay start h)) → AreHoldings less → IsSameBut (created s.model caller recorded bytes).store →
-      ((doubt : Doubt) → StandsForKeys disks disk old.file.cells.states.items (durable_keys s.model) doubt →
-      Leads disks disk new.file.cells.disk old.file.cells.states.items new.file.cells.states.items (durable_keys s.model) doubt (durable_keys (created s.model caller recorded bytes).store)
+      ((doubt : Doubt) → StandsForKeys disks disk old.file.cells.states (durable_keys s.model) doubt →
+      Leads disks disk new.file.cells.disk old.file.cells.states new.file.cells.states (durable_keys s.model) doubt (durable_keys (created s.model caller recorded bytes).store)
       (cond (is_volatile recorded) doubt [])) →
-      ((doubt : Doubt) → (doubt ≡ [] → IsSure old.file.cells.states.items) → cond (is_volatile recorded) doubt [] ≡ [] → IsSure new.file.cells.states.items) →
-      MovesFree (not (is_volatile recorded)) false Plain old.file.cells.states.items new.file.cells.states.items → IsTurnTo Plain → StandsNew
+      ((doubt : Doubt) → (doubt ≡ [] → IsSure old.file.cells.states) → cond (is_volatile recorded) doubt [] ≡ [] → IsSure new.file.cells.states) →
+      MovesFree (not (is_volatile recorded)) false Plain old.file.cells.states new.file.cells.states → IsTurnTo Plain → StandsNew
   makes caller recorded bytes s first last may keeps making holdings same leads settles frees is =
       (turns disks elements admits only_now (IsMakingAt e caller recorded bytes) (IsTold (disks.contents disk) start (h ++ e ∷ [])) old new start opening h all less e Plain (created s.model caller recorded bytes).store s
       (retold (disks.contents disk) (disks.contents new.file.cells.disk) start (h ++ e ∷ []) same.tells) (λ k. making (retold (disks.contents disk) (disks.contents new.file.cells.disk) start (h ++ e ∷ []) same.tells k)) (record {
@@ -119,10 +117,10 @@ module _ {D A C : Type 0} (disks : DiskGhosts D) (elements : DevicesGhosts A) (a
         directory = same.directory;
         device = same.device;
         tells = same.tells;
-        leads = λ c known at stands. subst (Leads disks disk new.file.cells.disk old.file.cells.states.items new.file.cells.states.items (durable_keys s.model) c.doubt (durable_keys (created s.model caller recorded bytes).store))
+        leads = λ c known at stands. subst (Leads disks disk new.file.cells.disk old.file.cells.states new.file.cells.states (durable_keys s.model) c.doubt (durable_keys (created s.model caller recorded bytes).store))
             (sym (doubt_is c known at)) (leads c.doubt stands);
-        frees = λ service known at. subst (λ b. MovesFree (is_persistent_key (key_changed service e.caller e.call)) b Plain old.file.cells.states.items new.file.cells.states.items) (sym keeps)
-            (subst (λ b. MovesFree b false Plain old.file.cells.states.items new.file.cells.states.items) (sym (ap is_persistent_key (changed service known at))) frees);
+        frees = λ service known at. subst (λ b. MovesFree (is_persistent_key (key_changed service e.caller e.call)) b Plain old.file.cells.states new.file.cells.states) (sym keeps)
+            (subst (λ b. MovesFree b false Plain old.file.cells.states new.file.cells.states) (sym (ap is_persistent_key (changed service known at))) frees);
         settles = λ c known at sure none. settles c.doubt sure (sym (doubt_is c known at) ∙ none);
         fault = tt;
         may = λ service known at. tt;

@@ -18,7 +18,7 @@ module _ {D A C : Type 0} {disks : DiskGhosts D} {elements : DevicesGhosts A} {a
   m = r.holds.model
 
   abbrev cells : List CellState
-  cells = old.file.cells.states.items
+  cells = old.file.cells.states
 
   abbrev disk : D
   disk = old.file.cells.disk
@@ -90,15 +90,15 @@ module _ {D A C : Type 0} {disks : DiskGhosts D} {elements : DevicesGhosts A} {a
           (local_fills m caller a r.bytes first last r.holds.sound ready_may local)))
 
       abbrev Leading : Keys → Doubt → Keys → Doubt → Type 0
-      Leading keys doubt keys' doubt' = Leads disks disk file.cells.disk cells file.cells.states.items keys doubt keys' doubt'
+      Leading keys doubt keys' doubt' = Leads disks disk file.cells.disk cells file.cells.states keys doubt keys' doubt'
 
       -- what the file makes of a new key
       pub record IsFiled : Type 0 where
         pub c : ℕ
         pub without : IsFirstWithoutKey cells c
-        pub placed : file.cells.states.items ≡ set (settled_states cells) c (Open a.id.0 number)
-        pub sized : length file.cells.states.items ≡ cell_count
-        pub free : contents.StaysFreeBut cells file.cells.states.items
+        pub placed : file.cells.states ≡ set (settled_states cells) c (Open a.id.0 number)
+        pub sized : length file.cells.states ≡ cell_count
+        pub free : contents.StaysFreeBut cells file.cells.states
         pub tells : is_some (disks.contents file.cells.disk) ≡ is_some (disks.contents disk)
         pub leads : (keys keys' : Keys) (doubt : Doubt) → StandsForKeys disks disk cells keys doubt → IsPut keys keys' a.id.0 (Some (stored number a (bytes_of old.buffer))) → Leading keys doubt keys' []
 
@@ -123,19 +123,19 @@ module _ {D A C : Type 0} {disks : DiskGhosts D} {elements : DevicesGhosts A} {a
         live = λ c le. as_many_live m caller a r.bytes first last r.holds.sound ready_may persistent c ∙ r.holds.live c le;
         kept = one_more_kept m caller a r.bytes first last r.holds.sound ready_may persistent ∙ ap (λ n. n + 1) r.holds.kept;
         slots = agrees;
-        directory = directory_placed m caller a r.bytes first last r.holds.sound ready_may cells file.cells.states.items f.c persistent r.holds.directory f.without f.sized
+        directory = directory_placed m caller a r.bytes first last r.holds.sound ready_may cells file.cells.states f.c persistent r.holds.directory f.without f.sized
             (f.placed ∙ ap (λ n. set (settled_states cells) f.c (Open a.id.0 n)) number_is);
         device = device_same m caller a r.bytes first last r.holds.sound ready_may (elements.keys old.devices) local r.holds.device;
         tells = f.tells;
       }) (λ doubt stands. subst (λ b. Leading (durable_keys m) doubt (durable_keys after) (cond b doubt [])) (sym persistent) (f.leads (durable_keys m) (durable_keys after) doubt stands put_stated))
-          (λ doubt sure none. set_sure cells file.cells.states.items f.c (Open a.id.0 number) refl f.placed)
-          (subst (λ b. MovesFree (not b) false Plain cells file.cells.states.items) (sym persistent) f.free) is
+          (λ doubt sure none. set_sure cells file.cells.states f.c (Open a.id.0 number) refl f.placed)
+          (subst (λ b. MovesFree (not b) false Plain cells file.cells.states) (sym persistent) f.free) is
 
       -- what the file makes of one that it failed to make
       pub record IsUnfiled (closed_first : Bool) : Type 0 where
-        pub settled : settled_states file.cells.states.items ≡ settled_states cells
-        pub sized : length file.cells.states.items ≡ cell_count
-        pub free : contents.StaysFreeBut cells file.cells.states.items
+        pub settled : settled_states file.cells.states ≡ settled_states cells
+        pub sized : length file.cells.states ≡ cell_count
+        pub free : contents.StaysFreeBut cells file.cells.states
         pub tells : is_some (disks.contents file.cells.disk) ≡ is_some (disks.contents disk)
         pub leads : (keys : Keys) (doubt : Doubt) → StandsForKeys disks disk cells keys doubt → Leading keys doubt keys (doubt_unmade (Disk closed_first) a (bytes_of old.buffer) doubt)
         pub unclosed : closed_first ≡ false → IsSure cells → ⊥
@@ -151,11 +151,11 @@ module _ {D A C : Type 0} {disks : DiskGhosts D} {elements : DevicesGhosts A} {a
           (same_device (elements.keys old.devices) m r.holds.device)
           (rose_since (last_counts opening.counts h).faults (disks.faults disk) e.faults since.faults_since (subst (Rose (disks.faults disk)) (sym is.disk_faults) f.rose))
           (λ service known at. is_persistent_changed service known at)
-          file (directory_settled cells file.cells.states.items m f.sized f.settled r.holds.directory) f.tells
+          file (directory_settled cells file.cells.states m f.sized f.settled r.holds.directory) f.tells
           (λ c known at stands. subst (Leading (durable_keys m) c.doubt (durable_keys m)) (sym (doubt_is c known at)) (f.leads (durable_keys m) c.doubt stands))
           (λ c known at sure none. absurd (in_doubt closed_first c.doubt f.unclosed sure (sym (doubt_is c known at) ∙ none)))
-          (λ service known at. subst (λ b. MovesFree (is_persistent_key (key_changed service e.caller e.call)) b (Storage (Writing closed_first)) cells file.cells.states.items) (sym making.keeps)
-          (subst (λ b. MovesFree b false (Storage (Writing closed_first)) cells file.cells.states.items) (sym (is_persistent_changed service known at)) f.free)) is).0
+          (λ service known at. subst (λ b. MovesFree (is_persistent_key (key_changed service e.caller e.call)) b (Storage (Writing closed_first)) cells file.cells.states) (sym making.keeps)
+          (subst (λ b. MovesFree b false (Storage (Writing closed_first)) cells file.cells.states) (sym (is_persistent_changed service known at)) f.free)) is).0
         where
           marked_outcome : (service : Service) → e.mark ≡ Storage (Writing closed_first) → (outcome_of service e).service.store ≡ counted service.store
           marked_outcome service marked = ap (λ (x : FaultMark). (serve service e.caller e.call x).service.store) marked ∙ marked_counts service e.caller e.call (Storage (Writing closed_first)) tt making.keeps

@@ -133,7 +133,7 @@ module _ {D A C : Type 0} {disks : DiskGhosts D} {elements : DevicesGhosts A} {a
     is_making k = record { leaves = making.leaves k; answers = making.answers k }
 
     abbrev Leading : Doubt → Model → Doubt → Type 0
-    Leading doubt m' doubt' = Leads disks disk disk old.file.cells.states.items old.file.cells.states.items (durable_keys m) doubt (durable_keys m') doubt'
+    Leading doubt m' doubt' = Leads disks disk disk old.file.cells.states old.file.cells.states (durable_keys m) doubt (durable_keys m') doubt'
 
     abbrev pub with_volatile : Store D A C
     with_volatile = record old {
@@ -154,13 +154,13 @@ module _ {D A C : Type 0} {disks : DiskGhosts D} {elements : DevicesGhosts A} {a
       live = live_here m caller a r.bytes first last r.holds.sound may volatile old.live sized r.holds.live;
       kept = as_many_kept m caller a r.bytes first last r.holds.sound may volatile ∙ r.holds.kept;
       slots = agrees;
-      directory = directory_same m caller a r.bytes first last r.holds.sound may old.file.cells.states.items volatile r.holds.directory;
+      directory = directory_same m caller a r.bytes first last r.holds.sound may old.file.cells.states volatile r.holds.directory;
       device = device;
       tells = refl;
     }) (λ doubt stands. subst (λ b. Leading doubt after (cond b doubt [])) (sym volatile)
-        (stays disks disk old.file.cells.states.items (durable_keys m) (durable_keys after) doubt (volatile_kept m caller a r.bytes first last r.holds.sound may volatile) stands))
+        (stays disks disk old.file.cells.states (durable_keys m) (durable_keys after) doubt (volatile_kept m caller a r.bytes first last r.holds.sound may volatile) stands))
         (λ doubt sure none. sure (subst (λ b. cond b doubt [] ≡ []) volatile none))
-        (subst (λ b. MovesFree (not b) false Plain old.file.cells.states.items old.file.cells.states.items) (sym volatile) (λ cell lt free. free)) is
+        (subst (λ b. MovesFree (not b) false Plain old.file.cells.states old.file.cells.states) (sym volatile) (λ cell lt free. free)) is
 
     -- a key that no device is to hold
     pub local_device : is_opaque a ≡ false → elements.keys devices ≡ elements.keys old.devices → HoldsKeys (elements.keys devices) after
@@ -185,9 +185,9 @@ module _ {D A C : Type 0} {disks : DiskGhosts D} {elements : DevicesGhosts A} {a
         (subst (λ n. (elements.keys devices ≡ elements.keys old.devices) ⊎ (elements.keys devices ≡ option_map (with_held_key n held_key) (elements.keys old.devices))) number_is changes) r.holds.device)
         (rose_since (last_counts opening.counts h).device_faults (elements.faults old.devices) e.device_faults since.device_faults_since (subst (Rose (elements.faults old.devices)) (sym is.device_faults) rose))
         (λ service known at. ap (λ b. b || asks_device service e.caller e.call) (ap is_opaque_key (changed service known at) ∙ opaque)) old.file r.holds.directory refl
-        (λ c known at stands. subst (Leading c.doubt m) (sym (doubt_is c known at)) (stays disks disk old.file.cells.states.items (durable_keys m) (durable_keys m) c.doubt (λ q. refl) stands))
+        (λ c known at stands. subst (Leading c.doubt m) (sym (doubt_is c known at)) (stays disks disk old.file.cells.states (durable_keys m) (durable_keys m) c.doubt (λ q. refl) stands))
         (λ c known at sure none. sure (sym (doubt_is c known at) ∙ none))
-        (λ service known at. unmoved (is_persistent_key (key_changed service e.caller e.call)) (is_destruction e.call) Hardware old.file.cells.states.items (inr making.keeps)) is).0
+        (λ service known at. unmoved (is_persistent_key (key_changed service e.caller e.call)) (is_destruction e.call) Hardware old.file.cells.states (inr making.keeps)) is).0
       where
         changed : (service : Service) → IsMakingAt e caller a r.bytes service → m ≡ service.store → key_changed service e.caller e.call ≡ Some own
         changed service known at =

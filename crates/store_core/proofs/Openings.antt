@@ -1,9 +1,7 @@
 -- What an opening finds, as keys of the one-thread store.
 use Rattle.store_core.proofs.Common.{[], ap, AreFound, AreOpened, arith, Attributes, body, cell_state, CellState, cond, content_at, content_of, content_there, creation_of_state, drop, durable_keys, eqb-true, false≢true, Finds, found_in, Free, gate, get_or-replicate, has_id, HasKey, HoldsId, HoldsKey, IfSome, is_some, IsFoundIn, IsKeyOf, IsNamed, IsNumbered, IsPersistent, kept, Key, length, length-drop, length-take, List, map_get, None, Open, opened_gate, OpenedKey, Option, place, Present, refl, Settings, Shows, Shut, slice_get, Some, Sound, start_of, Stored, stored, subst, suc, sym, take, true, Unsure, ℕ, ◌+◌, ◌<◌, ◌∙◌, ◌∷◌, ◌≡◌, ◌≤◌, cell_count}
 use Rattle.key_cells.proofs.Bodies.{of_one_key}
-use Rattle.store_core.proofs.FoundMap.{HasEachOnce, id_of, found_at, at_found}
-use Rattle.store_core.proofs.Kept.{lasting}
-use Rattle.store_core.proofs.OpenCells.{IsPlaced, HasCellKey, placed, has_own}
+use Rattle.store_core.proofs.{FoundMap.HasEachOnce, FoundMap.id_of, FoundMap.found_at, FoundMap.at_found, Kept.lasting, OpenCells.IsPlaced, OpenCells.HasCellKey, OpenCells.placed, OpenCells.has_own}
 
 -- THE CELLS OF THE IMAGE THAT WAS OPENED, AND OF WHAT IS READ AFTERWARDS
 

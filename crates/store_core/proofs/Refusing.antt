@@ -1,9 +1,6 @@
 -- A ranked turn that looked for a key.
 use Rattle.store_core.proofs.Common.{[], AdmissionGhosts, Agrees, ap, AreHoldings, arith, Corrupt, counted, DevicesGhosts, Disk, DiskGhosts, Entry, Err, false, FaultCounts, FaultMark, few_of_one, GetAttributes, Holds, InvalidHandle, is_persistent_key, is_some, IsEntry, IsErrOf, IsReading, IsRefused, IsTold, Key, KeySlots, KeyUse, List, map_get, mark_of, Missing, Model, None, OnStore, Opening, Option, Pairs, Plain, readers_out, reads_persistent, refl, refused_so, replay, Rose, Service, Slot, slot_at, Some, StandsFor, Status, status_of, Store, subst, sym, true, Unread, use_refusal, ℕ, ◌++◌, ◌-◌, ◌<◌, ◌^◌, ◌∙◌, ◌∷◌, ◌≡◌}
-use Rattle.store_core.proofs.Histories.{told_before, quiet_leaves}
-use Rattle.store_core.proofs.Holding.{turned}
-use Rattle.store_core.proofs.Changing.{ends_quiet}
-use Rattle.store_core.proofs.Loading.{reads_it}
+use Rattle.store_core.proofs.{Histories.told_before, Histories.quiet_leaves, Holding.turned, Changing.ends_quiet, Loading.reads_it}
 
 -- a search ended so
 abbrev IsWhy : Unread → Unread → Type 0

@@ -1,7 +1,6 @@
 -- A store of which one key is removed.
 use Rattle.store_core.proofs.Common.{ap, arith, Bool, cases_eq, cases_lt, cell_state, CellState, cond, destroyed, durable_keys, eq-eqb, eqb-true, false, false≢true, Free, get_or-map, get_or-set_other, get_or-set_same, get_or_past, held_key, HeldKey, HeldKeys, HoldsHandle, HoldsKeys, inl, inr, is_volatile, IsDirectory, IsPut, IsSomeKey, IsSoundStore, kept, Key, KeyMap, Lacks, left, len_kept-insert, length, length-map, List, map_get, map_get-remove, map_len, map_remove, Model, nat_cmp-IsAntisymmetric, nat_cmp_total, ne_eqb, None, none-some, Open, Option, option_map, Puts, refl, retain_keys, same_map, same_Some, set, settled_state, settled_states, Some, Stored, stored, subst, sym, taken, true, unsigned_tied, without_key, ℕ, ◌+◌, ◌<◌, ◌==◌, ◌∙◌, ◌≡◌, ◌≢◌, ◌⊎◌, cell_count}
-use Rattle.store_core.proofs.Kept.{HasCellKey}
-use Rattle.store_core.proofs.Replaced.{back_again}
+use Rattle.store_core.proofs.{Kept.HasCellKey, Replaced.back_again}
 
 -- as many keys are kept of the map as without the key, and that where it counts
 pub one_less : (p : ℕ → Bool) (keys : KeyMap) (id : ℕ) (key : Key) → map_get keys id ≡ Some key →

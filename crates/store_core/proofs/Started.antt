@@ -90,12 +90,12 @@ module _ {D A C : Type 0} (disks : DiskGhosts D) (elements : DevicesGhosts A) (a
 
   -- a store as it is made of a file that was opened
   pub record IsNew (first : D) (store : Store D A C) : Type 0 where
-    pub file : IsOpened disks first store.file.cells.disk store.file.cells.states.items
+    pub file : IsOpened disks first store.file.cells.disk store.file.cells.states
     pub slots : store.slots.table.slots ≡ replicate 384 empty_slot
     pub made : store.made ≡ replicate 17 0
     pub live : store.live ≡ replicate 17 0
-    pub kept : store.kept ≡ count_by is_open store.file.cells.states.items
-    pub found : store.found ≡ count_by is_open store.file.cells.states.items
+    pub kept : store.kept ≡ count_by is_open store.file.cells.states
+    pub found : store.found ≡ count_by is_open store.file.cells.states
     pub ranked : store.ranked ≡ 0
     pub saw_file : store.opened.file.value ≡ store.file
     pub saw_devices : store.opened.devices.value ≡ store.devices
@@ -106,10 +106,10 @@ module _ {D A C : Type 0} (disks : DiskGhosts D) (elements : DevicesGhosts A) (a
     disk = store.file.cells.disk
 
     abbrev slots : List CellState
-    slots = store.file.cells.states.items
+    slots = store.file.cells.states
 
     keys_of : (start : Service) → (s : Start store.opened start) → AreOpened (disks.contents disk) slots s.found
-    keys_of start s = subst (λ (f : KeyFile D). AreOpened (disks.contents f.cells.disk) f.cells.states.items s.found) new.saw_file s.keys
+    keys_of start s = subst (λ (f : KeyFile D). AreOpened (disks.contents f.cells.disk) f.cells.states s.found) new.saw_file s.keys
 
     sounds : IfSome (disks.contents first) (λ image. (read : List ℕ) → disks.may_leave disk read → Sound slots (found_in image) read)
     sounds = some_weaker (disks.contents first) (λ image. StandsForContents disks disk slots (found_in image)) (λ image. (read : List ℕ) → disks.may_leave disk read → Sound slots (found_in image) read) (λ image s. s.each) new.file.stands
@@ -126,7 +126,7 @@ module _ {D A C : Type 0} (disks : DiskGhosts D) (elements : DevicesGhosts A) (a
             seed_is = seed_is;
             labels_are = labels_are ∙ ap admits.labels (sym new.saw_rules);
             locations_are = locations_are ∙ ap elements.locations (sym new.saw_devices);
-            keys = subst (λ (f : KeyFile D). AreOpened (disks.contents f.cells.disk) f.cells.states.items keys.0) (sym new.saw_file) keys.1;
+            keys = subst (λ (f : KeyFile D). AreOpened (disks.contents f.cells.disk) f.cells.states keys.0) (sym new.saw_file) keys.1;
           },
         )
 

@@ -1,6 +1,6 @@
 -- Directories without a cell in doubt, and what is in the cells of their files.
-use Rattle.store_core.proofs.Common.{[], Absent, ap, arith, body, cell_state, CellState, closed, Content, content_at, DiskGhosts, Doubt, Doubtful, false≢true, Finds, Free, gate, get_or-map, get_or-replicate, HasKeyOrIsClosed, HasKeyOrZeros, HoldsKey, IfSome, inl, inr, is_some, IsDoubtedIn, IsFoundIn, IsSure, Keys, length, List, map-set, None, Open, opened_gate, Option, Present, refl, set, settled_state, settled_states, Shows, Shut, Some, StandsForKeys, Stored, stored, subst, sym, TellsCell, true, Unsure, zeros, ℕ, ◌<◌, ◌∙◌, ◌∷◌, ◌≡◌, ◌⊎◌, cell_count}
-use Rattle.key_cells.proofs.Clearing.{all_settled}
+use Rattle.store_core.proofs.Common.{[], Absent, ap, arith, body, cell_state, CellState, closed, Content, content_at, DiskGhosts, Doubt, Doubtful, false≢true, Finds, Free, gate, get_or-map, get_or-replicate, HasKeyOrIsClosed, HasKeyOrZeros, HoldsKey, IfSome, inl, inr, is_some, IsDoubtedIn, IsFoundIn, IsSure, Keys, length, length-map, List, map-set, None, Open, opened_gate, Option, Present, refl, set, settled_state, settled_states, Shows, Shut, Some, StandsForKeys, Stored, stored, subst, sym, TellsCell, true, Unsure, zeros, ℕ, ◌<◌, ◌∙◌, ◌∷◌, ◌≡◌, ◌⊎◌, cell_count}
+use Rattle.std.proofs.lemmas.List.{ext_get_or}
 use Rattle.persistent_keys.proofs.Filing.{settled_twice}
 use Rattle.store_core.proofs.Wiped.{shows_free}
 
@@ -16,9 +16,12 @@ found_cell (Open id number) g b is = refl
 found_cell Shut g b is = absurd is
 found_cell Unsure g b is = absurd is
 
+all_settled : (slots : List CellState) → ((c : ℕ) → c < length slots → cell_state slots c ≡ settled_state (cell_state slots c)) → settled_states slots ≡ slots
+all_settled slots settled = sym (ext_get_or Free slots (settled_states slots) (sym (length-map slots settled_state)) (λ c lt. settled c lt ∙ sym (get_or-map settled_state slots c Free Free lt)))
+
 found_sure : (image : List ℕ) (slots : List CellState) → length slots ≡ cell_count → IsFoundIn image slots → IsSure slots
-found_sure [] slots sized is = sym (all_settled slots (λ c lt. let free = ap (λ (l : List CellState). cell_state l c) is ∙ get_or-replicate cell_count c Free Free (omega (arith, sized, lt)) in free ∙ sym (ap settled_state free)))
-found_sure (byte ∷ rest) slots sized is = sym (all_settled slots (λ c lt. found_cell (cell_state slots c) (gate c (byte ∷ rest)) (body c (byte ∷ rest)) (is.each c (omega (arith, sized, lt)))))
+found_sure [] slots sized is = all_settled slots (λ c lt. let free = ap (λ (l : List CellState). cell_state l c) is ∙ get_or-replicate cell_count c Free Free (omega (arith, sized, lt)) in free ∙ sym (ap settled_state free))
+found_sure (byte ∷ rest) slots sized is = all_settled slots (λ c lt. found_cell (cell_state slots c) (gate c (byte ∷ rest)) (body c (byte ∷ rest)) (is.each c (omega (arith, sized, lt))))
 
 pub opened_sure : (told : Option (List ℕ)) (slots : List CellState) → length slots ≡ cell_count → IfSome told (λ image. IsFoundIn image slots) → is_some told ≡ true → IsSure slots
 opened_sure None slots sized found tells = absurd (false≢true tells)

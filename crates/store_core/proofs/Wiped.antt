@@ -1,7 +1,6 @@
 -- What is wiped: the slots of keys that are gone, and free cells.
 use Rattle.store_core.proofs.Common.{Absent, Agrees, ap, arith, CellState, closed, Content, Doubtful, empty_slot, filling_slot, Free, HasNumber, inl, inr, is_full, IsLawfulSlot, List, Model, named, Pairs, Present, readers_out, refl, Shows, Slot, slot_at, subst, sym, zeros, ℕ, ◌+◌, ◌<◌, ◌∙◌, ◌≡◌, ◌⊎◌}
-use Rattle.slot_states.specs.declared.SlotState.{SlotState}
-use Rattle.slot_states.specs.declared.SlotState.TheVariants.{Empty, Filling, Full, Pending}
+use Rattle.slot_states.specs.{declared.SlotState.SlotState, declared.SlotState.TheVariants.Empty, declared.SlotState.TheVariants.Filling, declared.SlotState.TheVariants.Full, declared.SlotState.TheVariants.Pending}
 
 -- a cell that the directory has as free
 pub shows_free : (slot : CellState) (content : Content) (gate body : List ℕ) → slot ≡ Free → Shows slot content gate body → (gate ≡ closed) × (body ≡ zeros)

@@ -13,7 +13,7 @@ module _ {D : Type 0} (disks : DiskGhosts D) where
       FileStaysZeros disks mid new → FileStaysZeros disks old new
   read_first old mid new same keeps then = λ keys doubt s c lt free still.
       let read = keeps keys doubt s in
-      let between : cell_state mid.cells.states.items c ≡ Free = ap (λ (d : _). cell_state d.items c) same ∙ free in
+      let between : cell_state mid.cells.states c ≡ Free = ap (λ (d : _). cell_state d c) same ∙ free in
       within_both (disks.moment old.cells.disk) (disks.moment mid.cells.disk) (disks.moment new.cells.disk) (disks.left_since old.cells.disk) (disks.left_since mid.cells.disk) (disks.left_since new.cells.disk) (HasZeros c) (HasZeros c) (HasZeros c)
       (read.zeros c lt free between) (then keys doubt read.stands c lt between still) (λ image z. z) (λ image z. z)
 
@@ -51,7 +51,7 @@ module _ {D A C : Type 0} (disks : DiskGhosts D) (elements : DevicesGhosts A) (a
   abbrev IsWithin : (first last : Store D A C) → Type 0
   IsWithin first last = Within (disks.moment (disk_of first)) (disks.moment (disk_of last)) (disks.left_since (disk_of first)) (disks.left_since (disk_of last)) (HasZeros cell)
 
-  pub stays_zeros : (store : Store D A C) (turns : List (Store D A C)) → cell_state store.file.cells.states.items cell ≡ Free →
+  pub stays_zeros : (store : Store D A C) (turns : List (Store D A C)) → cell_state store.file.cells.states cell ≡ Free →
       StaysFree disks elements admits cell store turns → IsWithin store (last_store store turns)
   stays_zeros store [] free turns = within_none (disks.moment (disk_of store)) (disks.left_since (disk_of store)) (HasZeros cell)
   stays_zeros store (next ∷ rest) free turns =

@@ -35,7 +35,7 @@ module _ {D A C : Type 0} (disks : Disk.Ghosts D) (elements : Devices.Ghosts A) 
   -- a crash leaves zeros in each cell that is free
   abbrev pub LeavesFreeCellsZeros : Type 0
   LeavesFreeCellsZeros = (start : Service) (opening : Opening) (h : List Entry) (all : List Pairs) → StandsFor disks elements admits store start opening h all →
-      is_some (disks.contents store.file.cells.disk) ≡ true → (cell : ℕ) → cell < cell_count → cell_state store.file.cells.states.items cell ≡ Free →
+      is_some (disks.contents store.file.cells.disk) ≡ true → (cell : ℕ) → cell < cell_count → cell_state store.file.cells.states cell ≡ Free →
       (image : List ℕ) → disks.may_leave store.file.cells.disk image → HasZeros cell image
 
   -- where no key is in doubt, it leaves in each cell a key of the file, or zeros
@@ -46,13 +46,13 @@ module _ {D A C : Type 0} (disks : Disk.Ghosts D) (elements : Devices.Ghosts A) 
 
   -- a cell that is free, over any turns that leave it free, is all zeros in every image that a crash within them leaves
   abbrev pub LeavesZerosOverTurns : Type 0
-  LeavesZerosOverTurns = (turns : List (Store D A C)) (cell : ℕ) → cell < cell_count → cell_state store.file.cells.states.items cell ≡ Free →
+  LeavesZerosOverTurns = (turns : List (Store D A C)) (cell : ℕ) → cell < cell_count → cell_state store.file.cells.states cell ≡ Free →
       StaysFree disks elements admits cell store turns →
       Within (disks.moment store.file.cells.disk) (disks.moment (last_store store turns).file.cells.disk) (disks.left_since store.file.cells.disk) (disks.left_since (last_store store turns).file.cells.disk) (HasZeros cell)
 
   -- and a crash since the first of these, whenever it comes, leaves zeros there
   abbrev pub LeavesZerosSince : Type 0
-  LeavesZerosSince = (turns : List (Store D A C)) (cell : ℕ) → cell < cell_count → cell_state store.file.cells.states.items cell ≡ Free →
+  LeavesZerosSince = (turns : List (Store D A C)) (cell : ℕ) → cell < cell_count → cell_state store.file.cells.states cell ≡ Free →
       Stands disks elements admits store → is_some (disks.contents store.file.cells.disk) ≡ true → StaysFree disks elements admits cell store turns →
       (image : List ℕ) → disks.left_since (last_store store turns).file.cells.disk (disks.moment store.file.cells.disk) image → HasZeros cell image
 

@@ -86,13 +86,13 @@ module _ {D A C : Type 0} (disks : Disk.Ghosts D) (elements : Devices.Ghosts A) 
     pub ranked : store.ranked ≡ length h
     pub slots : Agrees store.slots.table.slots model all
     pub holdings : AreHoldings all
-    pub directory : IsDirectory store.file.cells.states.items model
+    pub directory : IsDirectory store.file.cells.states model
     pub device : HoldsKeys (elements.keys store.devices) model
     pub file : is_some (disks.contents store.file.cells.disk) ≡ true →
         StandsForThese disks store.file (durable_keys model) (course_of start h).doubt
-    pub sure : is_some (disks.contents store.file.cells.disk) ≡ true → (course_of start h).doubt ≡ [] → IsSure store.file.cells.states.items
+    pub sure : is_some (disks.contents store.file.cells.disk) ≡ true → (course_of start h).doubt ≡ [] → IsSure store.file.cells.states
     pub promise : is_some (disks.contents store.file.cells.disk) ≡ true → KeepsKeys (disks.left_since store.file.cells.disk) (disks.moment store.file.cells.disk) opening.moment start h
-    pub freed : is_some (disks.contents store.file.cells.disk) ≡ true → HaveFreed (IsFreeSince disks store.file.cells.disk store.file.cells.states.items) start h
+    pub freed : is_some (disks.contents store.file.cells.disk) ≡ true → HaveFreed (IsFreeSince disks store.file.cells.disk store.file.cells.states) start h
     pub caused : IsCaused (is_some (disks.contents store.file.cells.disk)) opening.counts h
     pub allowed : Told store start h → AreAllowed start h
 

@@ -28,7 +28,7 @@ module _ {D A C : Type 0} (disks : Disk.Ghosts D) (elements : Devices.Ghosts A) 
     pub seed_is : settings.seed ≡ opened.seed.value
     pub labels_are : settings.labels ≡ admits.labels opened.rules.value
     pub locations_are : settings.locations ≡ elements.locations opened.devices.value
-    pub keys : AreOpened (disks.contents opened.file.value.cells.disk) opened.file.value.cells.states.items found
+    pub keys : AreOpened (disks.contents opened.file.value.cells.disk) opened.file.value.cells.states found
 
   -- the disk's moment and the counts of faults as the opening answered
   abbrev pub opening_of : Opened D A C → Opening

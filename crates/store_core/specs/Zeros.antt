@@ -24,7 +24,7 @@ HasKeyOrIsClosed keys doubt cell image = HasKeyOrZeros keys cell image ⊎ (IsDo
 
 -- a cell that is free before calls and after them is all zeros in every image that a crash within them leaves
 abbrev pub LeavesZeros : {D : Type 0} (disks : Disk.Ghosts D) (old new : KeyFile D) → Type 0
-LeavesZeros disks old new = (cell : ℕ) → cell < cell_count → cell_state old.cells.states.items cell ≡ Free → cell_state new.cells.states.items cell ≡ Free →
+LeavesZeros disks old new = (cell : ℕ) → cell < cell_count → cell_state old.cells.states cell ≡ Free → cell_state new.cells.states cell ≡ Free →
     Within (disks.moment old.cells.disk) (disks.moment new.cells.disk) (disks.left_since old.cells.disk) (disks.left_since new.cells.disk) (HasZeros cell)
 
 -- so it is in a file that stands for some keys
@@ -49,7 +49,7 @@ module _ {D A C : Type 0} (disks : Disk.Ghosts D) (elements : Devices.Ghosts A) 
     pub stands : Stands disks elements admits old
     pub tells : is_some (disks.contents old.file.cells.disk) ≡ true
     pub zeros : StaysZeros disks elements admits old new
-    pub free : cell_state new.file.cells.states.items cell ≡ Free
+    pub free : cell_state new.file.cells.states cell ≡ Free
 
   -- and so does each of some turns, one after another
   abbrev pub StaysFree : (cell : ℕ) → Store D A C → List (Store D A C) → Type 0

@@ -6,16 +6,10 @@ ghost use Rattle.disk_face.specs.Disk.{StillTells};
 ghost use Rattle.secret_bytes.specs.Buffer.{IsClear};
 ghost use Rattle.slot_states.specs.declared.SlotState.TheVariants.{Full};
 ghost use Rattle.slot_table.specs.Slots.{empty_slot, slot_at};
-ghost use Rattle.key_slots.specs.Standing.{SlotHasKey};
-ghost use Rattle.key_slots.specs.Wiping.{EndsOnly, IsFillingOf, IsTakenOf};
+ghost use Rattle.key_slots.specs.{Standing.SlotHasKey, Wiping.EndsOnly, Wiping.IsFillingOf, Wiping.IsTakenOf};
 ghost use Rattle.store_model.specs.Store as model;
 ghost use Rattle.store_model.specs.Prelude.{Key, is_opaque, recorded_copy};
-ghost use Rattle.store_core.specs.Represents.{HasOut, ranked_on};
-ghost use Rattle.store_core.specs.Refusals.{WritesNothing};
-ghost use Rattle.store_core.specs.Rising.{NoFewerFaults};
-ghost use Rattle.store_core.specs.Zeros.{StaysZeros};
-ghost use Rattle.store_core.specs.Uses.{KeepsOrEmpties};
-ghost use Rattle.store_core.specs.Creations.{CopiesMade, CopiesUnmade, HoldsWithin, OnUnbegun, OnUnread, status_uncopied};
+ghost use Rattle.store_core.specs.{Represents.HasOut, Represents.ranked_on, Refusals.WritesNothing, Rising.NoFewerFaults, Zeros.StaysZeros, Uses.KeepsOrEmpties, Creations.CopiesMade, Creations.CopiesUnmade, Creations.HoldsWithin, Creations.OnUnbegun, Creations.OnUnread, Creations.status_uncopied};
 
 use crate::Store;
 use crate::creating::NotMade;

@@ -4,23 +4,15 @@ ghost use Rattle.std.specs.Option.{option_map};
 ghost use Rattle.std.specs.FinMap as map;
 ghost use Rattle.disk_face.specs.Disk.{StillTells};
 ghost use Rattle.psa_status.specs.declared.Status.TheVariants.{InvalidHandle};
-ghost use Rattle.psa_status.specs.Causes.{HasCause};
-ghost use Rattle.psa_status.specs.Rows.{first_row};
-ghost use Rattle.driver_dispatch.specs.Held.{without_key};
-ghost use Rattle.driver_dispatch.specs.Calls.{HoldsHandle, has_element};
+ghost use Rattle.psa_status.specs.{Causes.HasCause, Rows.first_row};
+ghost use Rattle.driver_dispatch.specs.{Held.without_key, Calls.HoldsHandle, Calls.has_element};
 ghost use Rattle.key_cells.specs.declared.state.CellState.TheVariants.{Free};
 ghost use Rattle.key_cells.specs.Prelude.{IsFirstWithKey, cell_state, has_id, store_size};
 ghost use Rattle.slot_states.specs.declared.SlotState.TheVariants.{Full};
-ghost use Rattle.slot_table.specs.Slots.{NoKey, holds_key, slot_at};
-ghost use Rattle.slot_table.specs.Changes.{destroyed_slot};
+ghost use Rattle.slot_table.specs.{Slots.NoKey, Slots.holds_key, Slots.slot_at, Changes.destroyed_slot};
 ghost use Rattle.key_slots.specs.Wiping.{EndsOnly};
 ghost use Rattle.store_model.specs.Prelude.{is_opaque, destroy_rows, Plain};
-ghost use Rattle.store_core.specs.Represents.{Destroys, Stands, ranked_on};
-ghost use Rattle.store_core.specs.Destructions.{DestroysUnsure};
-ghost use Rattle.store_core.specs.Refusals.{CallsNothing};
-ghost use Rattle.store_core.specs.Rising.{NoFewerFaults};
-ghost use Rattle.store_core.specs.Uses.{EndsSlotsOf, Forgets, FreesCellsOf, IsForgotten, MayDestroy, status_undestroyed};
-ghost use Rattle.store_core.specs.Zeros.{FileStaysZeros, StaysZeros};
+ghost use Rattle.store_core.specs.{Represents.Destroys, Represents.Stands, Represents.ranked_on, Destructions.DestroysUnsure, Refusals.CallsNothing, Rising.NoFewerFaults, Uses.EndsSlotsOf, Uses.Forgets, Uses.FreesCellsOf, Uses.IsForgotten, Uses.MayDestroy, Uses.status_undestroyed, Zeros.FileStaysZeros, Zeros.StaysZeros};
 
 use crate::Store;
 use admission::Admission;
@@ -67,7 +59,7 @@ impl<D: Disk, A: Devices, C: Admission> Store<D, A, C> {
         ensures ended { EndsSlotsOf id.0 self.old.slots.table.slots self.new.slots.table.slots }
         ensures forgotten { OnOk result (Forgets id.0 self.old.slots.table.slots (A.keys self.old.devices) (A.keys self.new.devices)) }
         ensures unasked { NoKey id.0 self.old.slots.table.slots → self.new.devices ≡ self.old.devices }
-        ensures freed { OnOk result (FreesCellsOf id.0 self.old.file.cells.states.items self.new.file.cells.states.items) }
+        ensures freed { OnOk result (FreesCellsOf id.0 self.old.file.cells.states self.new.file.cells.states) }
         ensures untouched { IsErrOf result NotDestroyed.Missing → CallsNothing self.old self.new }
         ensures nothing { id.0 ≡ 0 → CallsNothing self.old self.new }
         ensures zeros { StaysZeros D.Disk A.Devices C.Admission self.old self.new }
@@ -104,7 +96,7 @@ impl<D: Disk, A: Devices, C: Admission> Store<D, A, C> {
     fn remove_kept(&mut self, id: KeyId, cell: usize) -> Result<(), NotDestroyed>
         requires stands { Stands D.Disk A.Devices C.Admission self.old }
         requires size { D.size self.old.file.cells.disk ≡ store_size }
-        requires there { IsFirstWithKey self.old.file.cells.states.items id.0 cell }
+        requires there { IsFirstWithKey self.old.file.cells.states id.0 cell }
         ensures size { D.size self.new.file.cells.disk ≡ store_size }
         ensures destroyed { OnOk result (Destroys D.Disk A.Devices C.Admission self.old (ranked_on self.new) id.0 Plain (MayDestroy id.0)) }
         ensures failed { IfErr result (λ why. DestroysUnsure D.Disk A.Devices C.Admission self.old (ranked_on self.new) id.0 why) }
@@ -113,7 +105,7 @@ impl<D: Disk, A: Devices, C: Admission> Store<D, A, C> {
         ensures ended { EndsSlotsOf id.0 self.old.slots.table.slots self.new.slots.table.slots }
         ensures forgotten { OnOk result (Forgets id.0 self.old.slots.table.slots (A.keys self.old.devices) (A.keys self.new.devices)) }
         ensures devices { self.new.devices ≡ self.old.devices }
-        ensures freed { OnOk result (FreesCellsOf id.0 self.old.file.cells.states.items self.new.file.cells.states.items) }
+        ensures freed { OnOk result (FreesCellsOf id.0 self.old.file.cells.states self.new.file.cells.states) }
         ensures zeros { FileStaysZeros D.Disk self.old.file self.new.file }
         ensures later { NoFewerFaults D.faults A.faults self.old self.new }
         ensures tells { StillTells (D.contents self.old.file.cells.disk) (D.contents self.new.file.cells.disk) }

@@ -8,11 +8,7 @@ ghost use Rattle.secret_bytes.specs.Buffer.{IsClear, bytes_of};
 ghost use Rattle.key_slots.specs.Wiping.{TakesOne};
 ghost use Rattle.key_policy.specs.Uses.{FitsUse, use_refusal};
 ghost use Rattle.store_model.specs.Prelude.{Plain, is_opaque_key};
-ghost use Rattle.store_core.specs.Represents.{HasOpaque, Reads, ReadsAndGives, Stands};
-ghost use Rattle.store_core.specs.Refusals.{CallsNothing, WritesNothing};
-ghost use Rattle.store_core.specs.Rising.{NoFewerFaults};
-ghost use Rattle.store_core.specs.Uses.{IsLent, IsRefused, KeepsOrEmpties, mark_of};
-ghost use Rattle.store_core.specs.Zeros.{StaysZeros};
+ghost use Rattle.store_core.specs.{Represents.HasOpaque, Represents.Reads, Represents.ReadsAndGives, Represents.Stands, Refusals.CallsNothing, Refusals.WritesNothing, Rising.NoFewerFaults, Uses.IsLent, Uses.IsRefused, Uses.KeepsOrEmpties, Uses.mark_of, Zeros.StaysZeros};
 
 use crate::Store;
 use admission::Admission;

@@ -3,12 +3,9 @@ ghost use Rattle.std.specs.Prelude.{◌≡◌, ◌<◌, ◌^◌, ◌+◌, length
 ghost use Rattle.std.specs.FinMap as map;
 ghost use Rattle.psa_status.specs.Causes.{Rose};
 ghost use Rattle.store_model.specs.Prelude.{is_opaque_key};
-ghost use Rattle.secure_element_calls.specs.Answers.{IsOfServed, IsRefusedBefore, mark_computed};
-ghost use Rattle.secure_element_calls.specs.Calls.{AsksElement, model_call};
+ghost use Rattle.secure_element_calls.specs.{Answers.IsOfServed, Answers.IsRefusedBefore, Answers.mark_computed, Calls.AsksElement, Calls.model_call};
 ghost use Rattle.secure_element_calls.specs.declared.calls.NotComputed.TheVariants as uncomputed;
-ghost use Rattle.store_core.specs.Opaque.{IsElementAnswered, Makes};
-ghost use Rattle.store_core.specs.Represents.{HasOpaque, HoldsOf, Stands};
-ghost use Rattle.store_core.specs.Rising.{NoFewerFaults};
+ghost use Rattle.store_core.specs.{Opaque.IsElementAnswered, Opaque.Makes, Represents.HasOpaque, Represents.HoldsOf, Represents.Stands, Rising.NoFewerFaults};
 
 use crate::Store;
 use admission::Admission;

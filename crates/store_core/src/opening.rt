@@ -53,12 +53,12 @@ impl<D: Disk, A: Devices, C: Admission> Store<D, A, C> {
         ensures stands { IfOk result (λ store. BeginsAtStart D.Disk A.Devices C.Admission store) }
         ensures starts { IfOk result (λ store. (start : Service) × IsStart D.Disk A.Devices C.Admission store.opened start) }
         ensures keys { IfOk result (λ store. IfSome (D.contents disk) (λ image. FindsKeysOf D.Disk A.Devices C.Admission store.opened image)) }
-        ensures opened { IfOk result (λ store. IsOpened D.Disk disk store.file.cells.disk store.file.cells.states.items) }
+        ensures opened { IfOk result (λ store. IsOpened D.Disk disk store.file.cells.disk store.file.cells.states) }
         ensures later { IfOk result (λ store. D.faults disk ≤ D.faults store.file.cells.disk) }
         ensures size { IfOk result (λ store. D.size store.file.cells.disk ≡ store_size) }
         ensures clear { IfOk result (λ store. IsClear store.buffer) }
         ensures ranked { IfOk result (λ store. store.ranked ≡ 0) }
-        ensures found { IfOk result (λ store. store.found ≡ count_by is_open store.file.cells.states.items) }
+        ensures found { IfOk result (λ store. store.found ≡ count_by is_open store.file.cells.states) }
         ensures devices { IfOk result (λ store. store.devices ≡ devices) }
         ensures rules { IfOk result (λ store. store.rules ≡ rules) }
         ensures saw_file { IfOk result (λ store. store.opened.file.value ≡ store.file) }
@@ -97,15 +97,15 @@ impl<D: Disk, A: Devices, C: Admission> Store<D, A, C> {
         buffer: Secret,
         seed: &[u8; 32],
     ) -> Store<D, A, C>
-        requires sized { length file.cells.states.items ≡ cell_count }
+        requires sized { length file.cells.states ≡ cell_count }
         ensures file { result.file ≡ file }
         ensures slots { result.slots ≡ slots }
         ensures devices { result.devices ≡ devices }
         ensures rules { result.rules ≡ rules }
         ensures made { result.made ≡ replicate 17 0 }
         ensures live { result.live ≡ replicate 17 0 }
-        ensures kept { result.kept ≡ count_by is_open file.cells.states.items }
-        ensures found { result.found ≡ count_by is_open file.cells.states.items }
+        ensures kept { result.kept ≡ count_by is_open file.cells.states }
+        ensures found { result.found ≡ count_by is_open file.cells.states }
         ensures ranked { result.ranked ≡ 0 }
         ensures buffer { result.buffer ≡ buffer }
         ensures saw_file { result.opened.file.value ≡ file }

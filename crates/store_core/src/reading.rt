@@ -9,9 +9,7 @@ ghost use Rattle.slot_states.specs.declared.SlotState.TheVariants.{Full};
 ghost use Rattle.slot_table.specs.Slots.{slot_at, NoKey};
 ghost use Rattle.key_slots.specs.Wiping.{TakesOne};
 ghost use Rattle.store_model.specs.Prelude.{is_opaque};
-ghost use Rattle.store_core.specs.Represents.{Brings, HasOpaque, Stands};
-ghost use Rattle.store_core.specs.Refusals.{WritesNothing};
-ghost use Rattle.store_core.specs.Uses.{HasPersistent, IsBrought, KeepsOrEmpties, status_of, unread_by};
+ghost use Rattle.store_core.specs.{Represents.Brings, Represents.HasOpaque, Represents.Stands, Refusals.WritesNothing, Uses.HasPersistent, Uses.IsBrought, Uses.KeepsOrEmpties, Uses.status_of, Uses.unread_by};
 ghost use Rattle.store_core.specs.declared.reading.Unread.TheVariants as unread;
 
 use crate::Store;

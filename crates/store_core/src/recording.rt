@@ -2,12 +2,10 @@
 ghost use Rattle.std.specs.Prelude.{◌≡◌, ◌≤◌, List, Some, None, is_some, IfErr, OnOk};
 ghost use Rattle.std.specs.FinMap as map;
 ghost use Rattle.psa_status.specs.Rows.{first_row};
-ghost use Rattle.key_slots.specs.Holdings.{Pairs};
-ghost use Rattle.key_slots.specs.Standing.{Agrees};
+ghost use Rattle.key_slots.specs.{Holdings.Pairs, Standing.Agrees};
 ghost use Rattle.store_model.specs.Store as model;
 ghost use Rattle.store_model.specs.Prelude.{IsSoundStore, recorded_of, room_for_key_rows};
-ghost use Rattle.store_core.specs.Creations.{HoldsWithin};
-ghost use Rattle.store_core.specs.Represents.{IsDirectory};
+ghost use Rattle.store_core.specs.{Creations.HoldsWithin, Represents.IsDirectory};
 
 use crate::Store;
 use admission::Admission;
@@ -78,7 +76,7 @@ impl<D: Disk, A: Devices, C: Admission> Store<D, A, C> {
 
     // Whether there is a key. One whose identifier can be stated is in the file, and every other in a slot.
     fn has(&self, id: KeyId) -> bool
-        ensures { (m : model.Store) (all : List Pairs) → Agrees self.now.slots.table.slots m all → IsDirectory self.now.file.cells.states.items m → IsSoundStore m →
+        ensures { (m : model.Store) (all : List Pairs) → Agrees self.now.slots.table.slots m all → IsDirectory self.now.file.cells.states m → IsSoundStore m →
             is_some (map.get m.keys id.0) ≡ result }
     {
         if id.0 > LAST_STATED_ID {

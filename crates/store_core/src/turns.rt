@@ -8,11 +8,7 @@ ghost use Rattle.secret_bytes.specs.Buffer.{IsClear};
 ghost use Rattle.slot_table.specs.Slots.{empty_slot, filling_slot, holds_key, is_idle, is_last, slot_at};
 ghost use Rattle.key_slots.specs.Wiping.{EndsOnly, IsEmptyOrIdle, IsFillingOf, IsIdleOf, IsLastOf, IsTakenOf, TakesOne};
 ghost use Rattle.store_model.specs.Prelude.{HasNumber, Plain};
-ghost use Rattle.store_core.specs.Represents.{Adds, AddsAs, Gives, HasOut, Reads, Stands, Steps, Takes};
-ghost use Rattle.store_core.specs.Refusals.{CallsNothing, WritesNothing};
-ghost use Rattle.store_core.specs.Rising.{NoFewerFaults};
-ghost use Rattle.store_core.specs.Uses.{HasAttributes, IsRefused, KeepsOrEmpties, mark_of, there_rows};
-ghost use Rattle.store_core.specs.Zeros.{StaysZeros};
+ghost use Rattle.store_core.specs.{Represents.Adds, Represents.AddsAs, Represents.Gives, Represents.HasOut, Represents.Reads, Represents.Stands, Represents.Steps, Represents.Takes, Refusals.CallsNothing, Refusals.WritesNothing, Rising.NoFewerFaults, Uses.HasAttributes, Uses.IsRefused, Uses.KeepsOrEmpties, Uses.mark_of, Uses.there_rows, Zeros.StaysZeros};
 
 use crate::Store;
 use admission::Admission;

@@ -1,6 +1,5 @@
 use Rattle.key_cells.proofs.Common.{LeavesWhatIsRead, List, Option, subst, sym, ℕ}
-use Rattle.key_cells.proofs.Moves.{on_ok}
-use Rattle.key_cells.proofs.Opened.{calm_both, calm_one, durable_still}
+use Rattle.key_cells.proofs.{Moves.on_ok, Opened.calm_both, Opened.calm_one, Opened.durable_still}
 use Rattle.key_cells.proofs.opening.measure.Goals as goal
 
 pub returns-clause-calm : goal.returns-clause-calm

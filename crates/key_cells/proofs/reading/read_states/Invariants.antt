@@ -1,4 +1,5 @@
 use Rattle.key_cells.proofs.Common.{Calm, count_by, GivesBlock, HasOneEach, IfSome, is_open, IsNamed, IsNumbered, length, ReadsBelow, take, ◌≡◌, ◌≢◌, cell_count, store_size}
+use Rattle.key_cells.proofs.Finding.{IsUnread}
 use Rattle.std.specs.Prelude.{◌%◌}
 use Rattle.key_cells.proofs.reading.read_states.Given as goal
 
@@ -9,11 +10,12 @@ invariant-loop-cell g l =
       size : d.size l.disk ≡ store_size;
       room : length l.block ≡ 69632;
       block : l.cell % 64 ≢ 0 → GivesBlock (d.contents l.fn.disk) l.cell l.block;
-      count : length l.states.items ≡ cell_count;
-      read : IfSome (d.contents l.fn.disk) (λ image. ReadsBelow l.cell l.states.items image);
-      one : HasOneEach l.cell l.states.items;
-      numbered : IsNumbered l.cell l.states.items;
-      named : IsNamed l.cell l.states.items;
-      keys : l.found ≡ count_by is_open (take l.cell l.states.items);
+      count : length l.states ≡ cell_count;
+      read : IfSome (d.contents l.fn.disk) (λ image. ReadsBelow l.cell l.states image);
+      unread : IsUnread l.cell l.states;
+      one : HasOneEach l.cell l.states;
+      numbered : IsNumbered l.cell l.states;
+      named : IsNamed l.cell l.states;
+      keys : l.found ≡ count_by is_open (take l.cell l.states);
       calm : Calm d l.fn.disk l.disk;
     }

@@ -5,5 +5,5 @@ use Rattle.key_cells.specs.Prelude.{cell_count, store_size}
 abbrev pub invariant-loop-id : goal.invariant-loop-id
 invariant-loop-id l = record {
   size : length l.cells.disk.bytes.items ≡ store_size;
-  slots : length l.cells.states.items ≡ cell_count;
+  slots : length l.cells.states ≡ cell_count;
 }

@@ -1,6 +1,5 @@
 use Rattle.key_cells.proofs.Common.{IfErr-weaker, IfOk-weaker, sym}
-use Rattle.key_cells.proofs.CellsRead.{measured_as}
-use Rattle.key_cells.proofs.Opened.{refused_calm, opened_after, refused_after, told_nothing, no_store_of}
+use Rattle.key_cells.proofs.{CellsRead.measured_as, Opened.refused_calm, Opened.opened_after, Opened.refused_after, Opened.told_nothing, Opened.no_store_of}
 use Rattle.key_cells.proofs.cells.Cells.open_store.Goals as goal
 
 pub returns-in-Err-clause-refused : goal.returns-in-Err-clause-refused
@@ -16,13 +15,13 @@ returns-then-size-ne-STORE_SIZE-clause-refused g c =
     (λ is. absurd is) (λ is. c.in-Ok.ensures.durable)
 
 pub returns-clause-opened : goal.returns-clause-opened
-returns-clause-opened g c = IfOk-weaker c.read.result _ _ (λ cells o. opened_after g.D.Disk c.args.disk c.measure.new.disk cells.disk cells.states.items c.measure.ensures.calm o) c.read.ensures.opened
+returns-clause-opened g c = IfOk-weaker c.read.result _ _ (λ cells o. opened_after g.D.Disk c.args.disk c.measure.new.disk cells.disk cells.states c.measure.ensures.calm o) c.read.ensures.opened
 
 pub returns-clause-refused : goal.returns-clause-refused
 returns-clause-refused g c = IfErr-weaker c.read.result _ _ (λ refused r. refused_after g.D.Disk c.args.disk c.measure.new.disk refused.0 refused.1 c.measure.ensures.calm r) c.read.ensures.refused
 
 pub returns-then-size-eq0-clause-opened : goal.returns-then-size-eq0-clause-opened
-returns-then-size-eq0-clause-opened g c = IfOk-weaker c.make.result _ _ (λ cells o. opened_after g.D.Disk c.args.disk c.measure.new.disk cells.disk cells.states.items c.measure.ensures.calm o) c.make.ensures.opened
+returns-then-size-eq0-clause-opened g c = IfOk-weaker c.make.result _ _ (λ cells o. opened_after g.D.Disk c.args.disk c.measure.new.disk cells.disk cells.states c.measure.ensures.calm o) c.make.ensures.opened
 
 pub returns-then-size-eq0-clause-refused : goal.returns-then-size-eq0-clause-refused
 returns-then-size-eq0-clause-refused g c = IfErr-weaker c.make.result _ _ (λ refused r. refused_after g.D.Disk c.args.disk c.measure.new.disk refused.0 refused.1 c.measure.ensures.calm r) c.make.ensures.refused

@@ -1,6 +1,5 @@
 use Rattle.persistent_keys.proofs.Common.{Err, ap, arith, body_of, refl, ◌∙◌}
-use Rattle.persistent_keys.proofs.Directory.{free_but_first, full_is_sure, full_of_settled, first_of_settled, placed_after}
-use Rattle.persistent_keys.proofs.Leading.{keeps_leads, settled_leads, made_leads, unmade_leads, no_key_in}
+use Rattle.persistent_keys.proofs.{Directory.free_but_first, Directory.full_is_sure, Directory.full_of_settled, Directory.first_of_settled, Directory.placed_after, Leading.keeps_leads, Leading.settled_leads, Leading.made_leads, Leading.unmade_leads, Leading.no_key_in}
 use Rattle.persistent_keys.proofs.file.KeyFile.make.Goals as goal
 
 pub returns-in-Err-clause-failed : goal.returns-in-Err-clause-failed
@@ -37,18 +36,18 @@ returns-in-Err-Disk-clause-failed g c = λ keys doubt s.
 pub returns-in-Ok-create-clause-placed : goal.returns-in-Ok-create-clause-placed
 returns-in-Ok-create-clause-placed g c =
     let e = c.in-Ok-create.ensures in
-    let old = c.args.self.now.cells.states.items in
-    let mid = c.settle.new.self.states.items in
-    (c.in-Ok-create._cell, first_of_settled old mid c.in-Ok-create._cell c.in-Ok.ensures.ok e.place, placed_after old mid c.create.new.self.states.items c.in-Ok-create._cell _ c.in-Ok.ensures.ok e.ok)
+    let old = c.args.self.now.cells.states in
+    let mid = c.settle.new.self.states in
+    (c.in-Ok-create._cell, first_of_settled old mid c.in-Ok-create._cell c.in-Ok.ensures.ok e.place, placed_after old mid c.create.new.self.states c.in-Ok-create._cell _ c.in-Ok.ensures.ok e.ok)
 
 pub returns-in-Err-clause-full : goal.returns-in-Err-clause-full
-returns-in-Err-clause-full g c = (λ e. cc, λ full. absurd (c.in-Err.ensures.doubted (full_is_sure c.args.self.now.cells.states.items full)))
+returns-in-Err-clause-full g c = (λ e. cc, λ full. absurd (c.in-Err.ensures.doubted (full_is_sure c.args.self.now.cells.states full)))
 
 pub returns-in-Err-Full-clause-nothing : goal.returns-in-Err-Full-clause-nothing
 returns-in-Err-Full-clause-nothing g c = λ e.
     let full = c.in-Err-Full.ensures.full in
     let n = c.in-Err-Full.ensures.nothing (ap Err c.in-Err-Full.field-0-is) in
-    let idle = c.in-Ok.ensures.idle (full_is_sure c.args.self.now.cells.states.items (full_of_settled c.args.self.now.cells.states.items c.settle.new.self.states.items c.in-Ok.ensures.ok (full.0 (ap Err c.in-Err-Full.field-0-is)))) in
+    let idle = c.in-Ok.ensures.idle (full_is_sure c.args.self.now.cells.states (full_of_settled c.args.self.now.cells.states c.settle.new.self.states c.in-Ok.ensures.ok (full.0 (ap Err c.in-Err-Full.field-0-is)))) in
     (n.0 ∙ idle.0, n.1 ∙ idle.1)
 
 pub returns-in-Ok-create-clause-free : goal.returns-in-Ok-create-clause-free

@@ -1,7 +1,5 @@
 use Rattle.store_core.proofs.Common.{last_store}
-use Rattle.store_core.proofs.Wiped.{shows_free}
-use Rattle.store_core.proofs.Zeroed.{stays_zeros, left_zeros}
-use Rattle.store_core.proofs.Freeing.{freed_zeros}
+use Rattle.store_core.proofs.{Wiped.shows_free, Zeroed.stays_zeros, Zeroed.left_zeros, Freeing.freed_zeros}
 use Rattle.store_core.proofs.store.Store.a_freed_cell_stays_zeros.Goals as goal
 
 pub returns-clause-within : goal.returns-clause-within
@@ -16,4 +14,4 @@ returns-clause-zeros g c = λ turns cell lt free stands tells stays.
     (stays_zeros g.D.Disk g.A.Devices g.C.Admission cell lt first turns free stays)
 
 pub returns-clause-history : goal.returns-clause-history
-returns-clause-history g c = λ start opening h all s tells. let file = c.args.self.now.file.cells in freed_zeros g.D.Disk file.disk file.states.items start h (s.holds.freed tells)
+returns-clause-history g c = λ start opening h all s tells. let file = c.args.self.now.file.cells in freed_zeros g.D.Disk file.disk file.states start h (s.holds.freed tells)

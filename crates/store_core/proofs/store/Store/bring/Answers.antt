@@ -1,9 +1,5 @@
 use Rattle.store_core.proofs.Common.{[], always_found, ap, arith, Bool, cell_state, course_of, creation_of_state, durable_keys, Err, false, false≢true, inl, is_opaque, is_opaque_key, is_persistent_key, is_some, IsBrought, IsErrOf, IsKeyOf, List, map_get, None, Pairs, refl, slot_at, Some, stored, subst, sym, true, Unread, unread_by, ℕ, ◌∙◌, ◌∷◌, ◌≡◌}
-use Rattle.store_core.proofs.Holding.{left_alone}
-use Rattle.store_core.proofs.Kept.{is_persistent, key_of_cell, local, no_key}
-use Rattle.store_core.proofs.Loading.{brings, filled_has, gains_one, IsLoaded, loads, stays_put}
-use Rattle.store_core.proofs.Ending.{empties_none, load_empties, load_ends}
-use Rattle.store_core.proofs.Destroyed.{none_at_zero, none_unstated}
+use Rattle.store_core.proofs.{Holding.left_alone, Kept.is_persistent, Kept.key_of_cell, Kept.local, Kept.no_key, Loading.brings, Loading.filled_has, Loading.gains_one, Loading.IsLoaded, Loading.loads, Loading.stays_put, Ending.empties_none, Ending.load_empties, Ending.load_ends, Destroyed.none_at_zero, Destroyed.none_unstated}
 use Rattle.key_slots.proofs.Pairs.{was_out}
 use Rattle.key_cells.specs.declared.cells.CellFault.{CellFault}
 use Rattle.key_cells.specs.declared.cells.CellFault.TheVariants as file
@@ -68,7 +64,7 @@ returns-in-Ok-clause-found g c = λ start opening h all e s is.
     let numbered = c.creation-number.ensures in
     let found = loads g.D.Disk g.A.Devices g.C.Admission old c.load.new.self c.fill-slot.new.self c.wipe.new.self start opening h all e id c.in-Some-find.cell a bytes
     (record { same = c.load.ensures.same; slots = c.load.ensures.states; keeps = c.load.ensures.keeps }) s.holds is (omega arith) c.in-Some-find.ensures.here key c.in-Ok.ensures.named
-    (λ tells. subst (λ (b : List ℕ). durable_keys m id ≡ Some (stored (creation_of_state (cell_state old.file.cells.states.items c.in-Some-find.cell)) a b)) (sym list) (c.in-Ok.ensures.loaded (durable_keys m) (course_of start h).doubt (s.holds.file tells)))
+    (λ tells. subst (λ (b : List ℕ). durable_keys m id ≡ Some (stored (creation_of_state (cell_state old.file.cells.states c.in-Some-find.cell)) a b)) (sym list) (c.in-Ok.ensures.loaded (durable_keys m) (course_of start h).doubt (s.holds.file tells)))
     c.in_default.ensures.found
     (λ n agrees l.
     let is_loaded : IsLoaded l.0 c.creation-number.result a bytes = record { has_number = l.2.has_number ∙ sym numbered; has_attributes = l.2.has_attributes; has_bytes = l.2.has_bytes } in
@@ -119,7 +115,7 @@ returns-in-Err g c =
           let m = s.holds.model in
           let sized = s.holds.directory.sized in
           let there = c.in-Some-find.ensures.within in
-          let key = key_of_cell old.file.cells.states.items m c.args.id.0 c.in-Some-find.cell s.holds.directory (omega arith) c.in-Some-find.ensures.here in
+          let key = key_of_cell old.file.cells.states m c.args.id.0 c.in-Some-find.cell s.holds.directory (omega arith) c.in-Some-find.ensures.here in
           brings g.D.Disk g.A.Devices g.C.Admission old c.load.new.self c.give_up.new.self c.load.new.out start opening h all e
           (λ n. is_persistent_key (map_get n.keys c.args.id.0) ≡ true)
           (record { same = loaded.same; slots = loaded.states; keeps = loaded.keeps }) s.holds
@@ -162,7 +158,7 @@ returns-in_default-find-clause-missing g c = λ is_missing start opening h all e
     let m = s.holds.model in
     brings g.D.Disk g.A.Devices g.C.Admission old old.file old.slots old.buffer start opening h all e
     (λ n. map_get n.keys c.args.id.0 ≡ None) (left_alone g.D.Disk g.A.Devices g.C.Admission old.file) s.holds s.holds.slots
-    (no_key old.file.cells.states.items m c.args.id.0 s.holds.directory c.in_default-find.ensures (c.in_default.ensures.none m all s.holds.slots))
+    (no_key old.file.cells.states m c.args.id.0 s.holds.directory c.in_default-find.ensures (c.in_default.ensures.none m all s.holds.slots))
 
 pub returns-in_default-find-clause-emptied : goal.returns-in_default-find-clause-emptied
 returns-in_default-find-clause-emptied g c = empties_none c.args.self.now.slots.table.slots

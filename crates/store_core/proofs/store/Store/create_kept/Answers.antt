@@ -1,9 +1,6 @@
 use Rattle.store_core.proofs.Common.{ap, created, doubt_unmade, Err, full_slot, IsKeyOf, IsPut, Leads, List, new_id, new_key, refl, SlotHasKey, Some, stored, subst, sym, ℕ, ◌+◌, ◌∙◌}
-use Rattle.persistent_keys.specs.declared.file.MakeFault.{MakeFault}
-use Rattle.persistent_keys.specs.declared.file.MakeFault.TheVariants.{Disk}
-use Rattle.store_core.proofs.MakesKept.{ready_key, ready_cells, ready_slots, ready_room, stated_puts, stated_new, stated_fills, ready_may, makes_kept, fails_kept}
-use Rattle.store_core.proofs.Added.{stated_here}
-use Rattle.store_core.proofs.Zeroed.{keys_put}
+use Rattle.persistent_keys.specs.{declared.file.MakeFault.MakeFault, declared.file.MakeFault.TheVariants.Disk}
+use Rattle.store_core.proofs.{MakesKept.ready_key, MakesKept.ready_cells, MakesKept.ready_slots, MakesKept.ready_room, MakesKept.stated_puts, MakesKept.stated_new, MakesKept.stated_fills, MakesKept.ready_may, MakesKept.makes_kept, MakesKept.fails_kept, Added.stated_here, Zeroed.keys_put}
 use Rattle.store_core.proofs.store.Store.create_kept.Goals as goal
 
 pub make-requires-clause-key : goal.make-requires-clause-key
@@ -66,8 +63,8 @@ returns-clause-unkept g c = rw c.in-Err-Disk.closed_first-is (λ start opening h
             sized = ensures.states;
             free = ensures.free;
             tells = ensures.tells;
-            leads = λ keys doubt stands. subst (λ (b : List ℕ). Leads g.D.Disk old.file.cells.disk c.make.new.self.cells.disk old.file.cells.states.items c.make.new.self.cells.states.items keys doubt keys (doubt_unmade (Disk closed) a b doubt)) c.as_slice.ensures.list
-                (subst (λ (f : MakeFault). Leads g.D.Disk old.file.cells.disk c.make.new.self.cells.disk old.file.cells.states.items c.make.new.self.cells.states.items keys doubt keys (doubt_unmade f a c.as_slice.result.now doubt)) c.in-Err-Disk.field-0-is (ensures.failed keys doubt stands));
+            leads = λ keys doubt stands. subst (λ (b : List ℕ). Leads g.D.Disk old.file.cells.disk c.make.new.self.cells.disk old.file.cells.states c.make.new.self.cells.states keys doubt keys (doubt_unmade (Disk closed) a b doubt)) c.as_slice.ensures.list
+                (subst (λ (f : MakeFault). Leads g.D.Disk old.file.cells.disk c.make.new.self.cells.disk old.file.cells.states c.make.new.self.cells.states keys doubt keys (doubt_unmade f a c.as_slice.result.now doubt)) c.in-Err-Disk.field-0-is (ensures.failed keys doubt stands));
             unclosed = λ unsettled. ensures.unclosed (failed ∙ ap (λ b. Err (Disk b)) unsettled);
             rose = ensures.cause closed failed;
           })

@@ -1,10 +1,6 @@
 use Rattle.store_core.proofs.Common.{arith, map_get}
 use Rattle.std.proofs.lemmas.Result.{on_ok_weaker}
-use Rattle.store_core.proofs.Kept.{key_of_cell, no_key}
-use Rattle.store_core.proofs.Destroyed.{low_lasts, none_at_zero, none_unstated, rows_zero, rows_missing, stated_here}
-use Rattle.store_core.proofs.DestroyTurn.{nothing}
-use Rattle.store_core.proofs.Ending.{lacks_key}
-use Rattle.store_core.proofs.Zeroed.{lacks_cell}
+use Rattle.store_core.proofs.{Kept.key_of_cell, Kept.no_key, Destroyed.low_lasts, Destroyed.none_at_zero, Destroyed.none_unstated, Destroyed.rows_zero, Destroyed.rows_missing, Destroyed.stated_here, DestroyTurn.nothing, Ending.lacks_key, Zeroed.lacks_cell}
 use Rattle.store_core.specs.Uses.{FreesCellsOf}
 use Rattle.store_core.proofs.store.Store.destroy.Goals as goal
 
@@ -27,7 +23,7 @@ returns-in_default-clause-failed g c = λ start opening h all e s call is.
 pub returns-in_default-find-clause-failed : goal.returns-in_default-find-clause-failed
 returns-in_default-find-clause-failed g c = λ start opening h all e s call is.
     let m = s.holds.model in
-    let none = no_key c.args.self.now.file.cells.states.items m c.args.id.0 s.holds.directory c.in_default-find.ensures (low_lasts m c.args.id.0 s.holds.sound (let low = c.if-id-gt-LAST_STATED_ID.false in omega arith)) in (
+    let none = no_key c.args.self.now.file.cells.states m c.args.id.0 s.holds.directory c.in_default-find.ensures (low_lasts m c.args.id.0 s.holds.sound (let low = c.if-id-gt-LAST_STATED_ID.false in omega arith)) in (
       nothing g.D.Disk g.A.Devices g.C.Admission g.met.D.Disk.only_now c.args.self.now start opening h all e c.args.id.0 call s none is,
       rows_missing c.args.id.0 (map_get m.keys c.args.id.0) c.if-id-eq0.false none,
     )
@@ -37,13 +33,13 @@ returns-in_default-find-clause-ended g c = λ i has.
     let slots = c.args.self.now.slots in
     let s = c.requires.stands.4.holds in
     absurd (lacks_key slots.table s.model c.requires.stands.3 c.args.id.0 slots.lawful s.slots
-    (no_key c.args.self.now.file.cells.states.items s.model c.args.id.0 s.directory c.in_default-find.ensures (low_lasts s.model c.args.id.0 s.sound (let low = c.if-id-gt-LAST_STATED_ID.false in omega arith))) i has)
+    (no_key c.args.self.now.file.cells.states s.model c.args.id.0 s.directory c.in_default-find.ensures (low_lasts s.model c.args.id.0 s.sound (let low = c.if-id-gt-LAST_STATED_ID.false in omega arith))) i has)
 
 pub returns-then-id-gt-LAST_STATED_ID-clause-freed : goal.returns-then-id-gt-LAST_STATED_ID-clause-freed
 returns-then-id-gt-LAST_STATED_ID-clause-freed g c =
     let s = c.requires.stands.4.holds in
-    let old = c.args.self.now.file.cells.states.items in
-    let frees : FreesCellsOf c.args.id.0 old c.remove_volatile-removed.new.self.file.cells.states.items = λ cell lt has.
+    let old = c.args.self.now.file.cells.states in
+    let frees : FreesCellsOf c.args.id.0 old c.remove_volatile-removed.new.self.file.cells.states = λ cell lt has.
     let k = key_of_cell old s.model c.args.id.0 cell s.directory lt has in
     let low = (stated_here s.model c.args.id.0 k.0 k.1 s.sound k.2).1 in
     let high = c.if-id-gt-LAST_STATED_ID.true in
@@ -59,7 +55,7 @@ returns-then-id-eq0-clause-ended g c = λ i has.
 pub returns-then-id-eq0-clause-freed : goal.returns-then-id-eq0-clause-freed
 returns-then-id-eq0-clause-freed g c = λ cell within has.
     let s = c.requires.stands.4.holds in
-    absurd (lacks_cell c.args.self.now.file.cells.states.items s.model c.args.id.0 s.directory (none_at_zero s.model c.args.id.0 s.sound c.if-id-eq0.true) cell within has)
+    absurd (lacks_cell c.args.self.now.file.cells.states s.model c.args.id.0 s.directory (none_at_zero s.model c.args.id.0 s.sound c.if-id-eq0.true) cell within has)
 
 pub returns-then-id-eq0-clause-forgotten : goal.returns-then-id-eq0-clause-forgotten
 returns-then-id-eq0-clause-forgotten g c = λ i lt has.

@@ -1,7 +1,6 @@
 use Rattle.store_core.proofs.Common.{[], Agrees, ap, Buffer, bytes-buffer_of, bytes_of, Err, IsAboutToCreate, IsEntry, length, mark_unkept, Model, new_id, None, Ok, Option, option_map, Plain, ranked_on, RecordsStated, refl, Store, subst, sym, ◌++◌, ◌∙◌, ◌∷◌, ◌≡◌}
 use Rattle.slot_table.specs.Lent.{Reading}
-use Rattle.store_core.proofs.Refusing.{asks_for}
-use Rattle.store_core.proofs.Finishing.{stated_ok, within, rebuffered, since_stands, is_making, refused_at, refuses}
+use Rattle.store_core.proofs.{Refusing.asks_for, Finishing.stated_ok, Finishing.within, Finishing.rebuffered, Finishing.since_stands, Finishing.is_making, Finishing.refused_at, Finishing.refuses}
 use Rattle.store_core.proofs.store.Store.finish.Goals as goal
 
 pub create-made-requires-clause-ready : goal.create-made-requires-clause-ready

@@ -1,6 +1,5 @@
 use Rattle.store_core.proofs.Common.{ap, arith, is_some}
-use Rattle.store_core.proofs.Kept.{key_of_cell, no_key}
-use Rattle.store_core.proofs.Destroyed.{low_lasts, none_unstated}
+use Rattle.store_core.proofs.{Kept.key_of_cell, Kept.no_key, Destroyed.low_lasts, Destroyed.none_unstated}
 use Rattle.store_core.proofs.store.Store.has.Goals as goal
 
 pub returns-in-None : goal.returns-in-None
@@ -12,8 +11,8 @@ returns-in-Some-find g c = λ m all agrees directory sound.
     let first = c.in-Some-find.ensures in
     let sized = directory.sized in
     let inside = first.within in
-    ap is_some (key_of_cell c.args.self.now.file.cells.states.items m c.args.id.0 c.in-Some-find._cell directory (omega arith) first.here).1
+    ap is_some (key_of_cell c.args.self.now.file.cells.states m c.args.id.0 c.in-Some-find._cell directory (omega arith) first.here).1
 
 pub returns-in-None-find : goal.returns-in-None-find
 returns-in-None-find g c = λ m all agrees directory sound.
-    ap is_some (no_key c.args.self.now.file.cells.states.items m c.args.id.0 directory c.in-None-find.ensures (low_lasts m c.args.id.0 sound (let low = c.if-id-gt-LAST_STATED_ID.false in omega arith)))
+    ap is_some (no_key c.args.self.now.file.cells.states m c.args.id.0 directory c.in-None-find.ensures (low_lasts m c.args.id.0 sound (let low = c.if-id-gt-LAST_STATED_ID.false in omega arith)))

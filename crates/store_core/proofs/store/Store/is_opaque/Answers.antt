@@ -1,5 +1,4 @@
-use Rattle.store_core.proofs.ByElement.{not_opaque}
-use Rattle.store_core.proofs.Destroyed.{low_lasts}
+use Rattle.store_core.proofs.{ByElement.not_opaque, Destroyed.low_lasts}
 use Rattle.store_core.proofs.store.Store.is_opaque.Goals as goal
 
 pub returns-in-None : goal.returns-in-None

@@ -1,10 +1,6 @@
 use Rattle.store_core.proofs.Common.{ap, arith, Attributes, bytes_of, FitsUse, Gains, HasOpaque, is_opaque, is_opaque_key, is_some, IsLent, IsTrue, length, map_get, missing, permits_size, refl, rules, Some, subst, sym, true, unless-err, unless-ok, use_refusal, ℕ, ◌+◌, ◌∙◌, ◌≡◌}
 use Rattle.slot_table.specs.Lent as lent
-use Rattle.store_core.proofs.Lending.{has_bytes, sized}
-use Rattle.store_core.proofs.Refusing.{asks_for, ends_found, ends_refused, ends_unread, few_readers, use_plain}
-use Rattle.store_core.proofs.ByElement.{unread_local}
-use Rattle.store_core.proofs.Missing.{is_missing_why, is_other}
-use Rattle.store_core.proofs.Ending.{look_ends}
+use Rattle.store_core.proofs.{Lending.has_bytes, Lending.sized, Refusing.asks_for, Refusing.ends_found, Refusing.ends_refused, Refusing.ends_unread, Refusing.few_readers, Refusing.use_plain, ByElement.unread_local, Missing.is_missing_why, Missing.is_other, Ending.look_ends}
 use Rattle.store_core.proofs.store.Store.look.Goals as goal
 
 pub lend-requires-clause-few : goal.lend-requires-clause-few

@@ -1,6 +1,5 @@
 use Rattle.store_core.proofs.Common.{algorithm_asked, ap, counted, Err, FaultCounts, first_row, fits_type, has_element, HoldsHandle, is_opaque_key, IsElementAnswered, IsTrue, key_rows, last_counts, length, mark_computed, model_call, Plain, refl, Refused, Rose, Some, subst, sym, unless-err, unless-ok, ◌∙◌, ◌≡◌}
-use Rattle.store_core.proofs.ByElement.{answered, checked_rows, ends_computed, fault_of, has_slot, held_of, holds_type, keeps_keys, mark_may, type_fits, unused}
-use Rattle.store_core.proofs.Destroyed.{element_there}
+use Rattle.store_core.proofs.{ByElement.answered, ByElement.checked_rows, ByElement.ends_computed, ByElement.fault_of, ByElement.has_slot, ByElement.held_of, ByElement.holds_type, ByElement.keeps_keys, ByElement.mark_may, ByElement.type_fits, ByElement.unused, Destroyed.element_there}
 use Rattle.store_core.proofs.store.Store.opaque_call.Goals as goal
 
 pub unreachable-requires : goal.unreachable-requires

@@ -7,12 +7,12 @@ is_new : (g : _) (c : goal.After-with_file g) →
 is_new g c =
     let e = c.with_file.ensures in
     record {
-      file = subst (λ (f : KeyFile _). IsOpened g.D.Disk c.args.disk f.cells.disk f.cells.states.items) (sym e.file) c.in-Ok-open.ensures.opened;
+      file = subst (λ (f : KeyFile _). IsOpened g.D.Disk c.args.disk f.cells.disk f.cells.states) (sym e.file) c.in-Ok-open.ensures.opened;
       slots = ap (λ (s : KeySlots). s.table.slots) e.slots ∙ c.in-Ok.ensures.slots;
       made = e.made;
       live = e.live;
-      kept = e.kept ∙ ap (λ (f : KeyFile _). count_by is_open f.cells.states.items) (sym e.file);
-      found = e.found ∙ ap (λ (f : KeyFile _). count_by is_open f.cells.states.items) (sym e.file);
+      kept = e.kept ∙ ap (λ (f : KeyFile _). count_by is_open f.cells.states) (sym e.file);
+      found = e.found ∙ ap (λ (f : KeyFile _). count_by is_open f.cells.states) (sym e.file);
       ranked = e.ranked;
       saw_file = e.saw_file ∙ sym e.file;
       saw_devices = e.saw_devices ∙ sym e.devices;

@@ -1,6 +1,5 @@
 use Rattle.store_core.proofs.Common.{ap, arith, InvalidHandle, map_get, Model, None, refl, Some, subst, sym, there_rows, ◌≡◌}
-use Rattle.store_core.proofs.Changing.{counts_on}
-use Rattle.store_core.proofs.Kept.{key_of_cell, no_key}
+use Rattle.store_core.proofs.{Changing.counts_on, Kept.key_of_cell, Kept.no_key}
 use Rattle.store_core.proofs.store.Store.purge.Goals as goal
 
 pub returns-in-Some-clause-there : goal.returns-in-Some-clause-there
@@ -15,7 +14,7 @@ returns-in-Some-find-clause-there g c = λ start opening h all e s still is.
     let first = c.in-Some-find.ensures in
     let sized = s.holds.directory.sized in
     let inside = first.within in
-    let key = key_of_cell c.args.self.now.file.cells.states.items s.holds.model c.args.id.0 c.in-Some-find._cell s.holds.directory (omega arith) first.here in
+    let key = key_of_cell c.args.self.now.file.cells.states s.holds.model c.args.id.0 c.in-Some-find._cell s.holds.directory (omega arith) first.here in
     (n.0, subst (λ (x : Model). there_rows (map_get x.keys c.args.id.0) ≡ None) (sym n.1) (ap there_rows key.1))
 
 pub returns-in-None-clause-missing : goal.returns-in-None-clause-missing
@@ -24,6 +23,6 @@ returns-in-None-clause-missing g c = (
   λ start opening h all e s still is.
       let m = s.holds.model in
       let n = counts_on g.D.Disk g.A.Devices g.C.Admission g.met.D.Disk.only_now e s c.args.self.now.slots s.holds.slots still is in
-      let none = no_key c.args.self.now.file.cells.states.items m c.args.id.0 s.holds.directory c.in-None.ensures (c.in_default.ensures.none m all s.holds.slots) in
+      let none = no_key c.args.self.now.file.cells.states m c.args.id.0 s.holds.directory c.in-None.ensures (c.in_default.ensures.none m all s.holds.slots) in
       (n.0, subst (λ (x : Model). there_rows (map_get x.keys c.args.id.0) ≡ Some InvalidHandle) (sym n.1) (ap there_rows none)),
 )

@@ -1,13 +1,7 @@
 use Rattle.store_core.proofs.Common.{arith, cell_state, Free, Leads, map_get, None, Plain, refl, Rose, Storage, subst, sym, Writing, ◌<◌, cell_count}
-use Rattle.key_cells.proofs.Counts.{has_id_open}
-use Rattle.key_cells.proofs.Free.{open_not_free}
-use Rattle.store_core.proofs.Kept.{key_of_cell, is_persistent}
-use Rattle.store_core.proofs.Destroyed.{fewer_kept, rows_there, still_doubted, undestroyed_doubt}
-use Rattle.store_core.proofs.Sure.{set_sure}
-use Rattle.store_core.proofs.DestroyTurn.{destroys_kept}
+use Rattle.key_cells.proofs.{Counts.has_id_open, Free.open_not_free}
+use Rattle.store_core.proofs.{Kept.key_of_cell, Kept.is_persistent, Destroyed.fewer_kept, Destroyed.rows_there, Destroyed.still_doubted, Destroyed.undestroyed_doubt, Sure.set_sure, DestroyTurn.destroys_kept, Zeroed.keys_put, Zeroed.freed, Forgotten.kept_forgotten}
 use Rattle.persistent_keys.proofs.Leading as file
-use Rattle.store_core.proofs.Zeroed.{keys_put, freed}
-use Rattle.store_core.proofs.Forgotten.{kept_forgotten}
 use Rattle.store_core.proofs.store.Store.remove_kept.Goals as goal
 
 pub overflow_sub-self : goal.overflow_sub-self
@@ -15,7 +9,7 @@ overflow_sub-self g c =
     let s = c.requires.stands.4.holds in
     let sized = s.directory.sized in
     let there = c.requires.there.within in
-    let k = key_of_cell c.args.self.now.file.cells.states.items s.model c.args.id.0 c.args.cell s.directory (omega arith) c.requires.there.here in
+    let k = key_of_cell c.args.self.now.file.cells.states s.model c.args.id.0 c.args.cell s.directory (omega arith) c.requires.there.here in
     let fewer = fewer_kept s.model c.args.id.0 k.0 k.1 s.sound k.2 in
     let was = s.kept in
     omega arith
@@ -23,12 +17,12 @@ overflow_sub-self g c =
 pub returns-in-Ok-clause-destroyed : goal.returns-in-Ok-clause-destroyed
 returns-in-Ok-clause-destroyed g c = λ start opening h all e s call is.
     let m = s.holds.model in
-    let cells = c.args.self.now.file.cells.states.items in
+    let cells = c.args.self.now.file.cells.states in
     let ensures = c.in-Ok.ensures in
     let sized = s.holds.directory.sized in
     let there = c.requires.there.within in
     let within : c.args.cell < cell_count = omega arith in
-    let key = key_of_cell c.args.self.now.file.cells.states.items m c.args.id.0 c.args.cell s.holds.directory within c.requires.there.here in (
+    let key = key_of_cell c.args.self.now.file.cells.states m c.args.id.0 c.args.cell s.holds.directory within c.requires.there.here in (
       destroys_kept g.D.Disk g.A.Devices g.C.Admission g.met.D.Disk.only_now c.args.self.now start opening h all e c.args.id.0 call c.destroy-closed.new.self c.destroy.new.self Plain c.args.cell s
           (record {
             within = within;
@@ -42,9 +36,9 @@ returns-in-Ok-clause-destroyed g c = λ start opening h all e s call is.
               c.args.cell,
               within,
               open_not_free (cell_state cells c.args.cell) (has_id_open c.args.id.0 (cell_state cells c.args.cell) c.requires.there.here),
-              freed cells c.destroy-closed.new.self.cells.states.items m c.args.id.0 c.args.cell s.holds.directory within c.requires.there.here ensures.gone c.args.cell within c.requires.there.here,
+              freed cells c.destroy-closed.new.self.cells.states m c.args.id.0 c.args.cell s.holds.directory within c.requires.there.here ensures.gone c.args.cell within c.requires.there.here,
             );
-            settles = λ own doubt none. set_sure c.args.self.now.file.cells.states.items c.destroy-closed.new.self.cells.states.items c.args.cell Free refl ensures.gone;
+            settles = λ own doubt none. set_sure c.args.self.now.file.cells.states c.destroy-closed.new.self.cells.states c.args.cell Free refl ensures.gone;
           })
           c.destroy.ensures.forgets tt (λ service persistent. tt) is,
       rows_there c.args.id.0 (map_get m.keys c.args.id.0) key.0 key.1,
@@ -60,7 +54,7 @@ returns-in-Err-clause-failed g c = λ start opening h all e s call is.
     let sized = s.holds.directory.sized in
     let there = c.requires.there.within in
     let within : c.args.cell < cell_count = omega arith in
-    let key = key_of_cell old.states.items m c.args.id.0 c.args.cell s.holds.directory within c.requires.there.here in (
+    let key = key_of_cell old.states m c.args.id.0 c.args.cell s.holds.directory within c.requires.there.here in (
       destroys_kept g.D.Disk g.A.Devices g.C.Admission g.met.D.Disk.only_now c.args.self.now start opening h all e c.args.id.0 call c.destroy-closed.new.self c.destroy.new.self (Storage (Writing closed)) c.args.cell s
           (record {
             within = within;
@@ -68,7 +62,7 @@ returns-in-Err-clause-failed g c = λ start opening h all e s call is.
             sized = ensures.states;
             missing = ensures.missing;
             tells = ensures.tells;
-            leads = λ keys keys' doubt own stands there put. subst (Leads g.D.Disk old.disk new.disk old.states.items new.states.items keys doubt keys') (undestroyed_doubt closed own doubt)
+            leads = λ keys keys' doubt own stands there put. subst (Leads g.D.Disk old.disk new.disk old.states new.states keys doubt keys') (undestroyed_doubt closed own doubt)
                 (ensures.failed keys keys' doubt own stands there put);
             frees = ensures.free;
             settles = λ own doubt none. absurd (still_doubted closed own doubt none);
@@ -85,7 +79,7 @@ returns-in-Err-clause-zeros g c = λ keys doubt stands.
     let old = c.args.self.now.file.cells in
     let sized = c.requires.stands.4.holds.directory.sized in
     let there = c.requires.there.within in
-    let k = file.key_of_cell g.D.Disk old.disk old.states.items keys doubt c.args.id.0 c.args.cell (omega arith) c.requires.there.here stands in
+    let k = file.key_of_cell g.D.Disk old.disk old.states keys doubt c.args.id.0 c.args.cell (omega arith) c.requires.there.here stands in
     (c.in-Err.ensures.failed keys (keys_put keys c.args.id.0 None) doubt k.0 stands k.1 (λ other. refl)).zeros
 
 pub returns-in-Ok-clause-freed : goal.returns-in-Ok-clause-freed
@@ -93,7 +87,7 @@ returns-in-Ok-clause-freed g c =
     let s = c.requires.stands.4.holds in
     let sized = s.directory.sized in
     let there = c.requires.there.within in
-    freed c.args.self.now.file.cells.states.items c.destroy-closed.new.self.cells.states.items s.model c.args.id.0 c.args.cell s.directory (omega arith) c.requires.there.here c.in-Ok.ensures.gone
+    freed c.args.self.now.file.cells.states c.destroy-closed.new.self.cells.states s.model c.args.id.0 c.args.cell s.directory (omega arith) c.requires.there.here c.in-Ok.ensures.gone
 
 pub returns-in-Ok-clause-forgotten : goal.returns-in-Ok-clause-forgotten
 returns-in-Ok-clause-forgotten g c = λ i lt has.
@@ -101,4 +95,4 @@ returns-in-Ok-clause-forgotten g c = λ i lt has.
     let old = c.args.self.now in
     let sized = s.directory.sized in
     let there = c.requires.there.within in
-    kept_forgotten old.file.cells.states.items old.slots.table.slots s.model c.requires.stands.3 c.args.id.0 c.args.cell i (g.A.Devices.keys old.devices) s.directory s.sound s.slots (omega arith) c.requires.there.here lt has
+    kept_forgotten old.file.cells.states old.slots.table.slots s.model c.requires.stands.3 c.args.id.0 c.args.cell i (g.A.Devices.keys old.devices) s.directory s.sound s.slots (omega arith) c.requires.there.here lt has

@@ -1,7 +1,5 @@
 use Rattle.store_core.proofs.Common.{ap, arith, asks_device, Hardware, has_element, HoldsHandle, is_opaque, is_opaque_key, map_get, Plain, Rose, slot_at, subst, sym, ℕ, ⊤, ◌||◌, ◌∙◌}
-use Rattle.store_core.proofs.Destroyed.{of_creator, fewer_live, element_there, holds_some, rows_there}
-use Rattle.store_core.proofs.DestroyTurn.{destroys_volatile, slot_key}
-use Rattle.store_core.proofs.Forgotten.{slot_forgotten}
+use Rattle.store_core.proofs.{Destroyed.of_creator, Destroyed.fewer_live, Destroyed.element_there, Destroyed.holds_some, Destroyed.rows_there, DestroyTurn.destroys_volatile, DestroyTurn.slot_key, Forgotten.slot_forgotten}
 use Rattle.store_core.proofs.store.Store.remove_volatile.Goals as goal
 
 pub forget-forgotten-requires-clause-element : goal.forget-forgotten-requires-clause-element

@@ -3,9 +3,9 @@ use Rattle.store_core.proofs.store.Store.with_file.Goals as goal
 
 pub overflow_cast-result : goal.overflow_cast-result
 overflow_cast-result g c =
-    let few = count_by-le-length is_open c.args.file.cells.states.items in
+    let few = count_by-le-length is_open c.args.file.cells.states in
     let sized = c.requires.sized in
-    let count = c.count-count.ensures in
+    let count = c.count-count.ensures.count in
     omega (arith, few, sized, count)
 
 pub returns : goal.returns
@@ -16,8 +16,8 @@ returns g c = record {
   rules = refl;
   made = refl;
   live = refl;
-  kept = c.count-count.ensures;
-  found = c.count-count.ensures;
+  kept = c.count-count.ensures.count;
+  found = c.count-count.ensures.count;
   ranked = refl;
   buffer = refl;
   saw_file = c.of.ensures;

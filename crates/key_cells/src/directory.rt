@@ -1,0 +1,159 @@
+// The directory in memory.
+ghost use Rattle.std.specs.Prelude.{◌≡◌, ◌≢◌, ◌<◌, ◌⊎◌, ◌↔◌, true, ℕ, length, set, replicate, count_by, IfOk, MatchOption, IsTrue};
+ghost use Rattle.key_index.specs.Index.{IsAlone, entries_of};
+ghost use Rattle.key_cells.specs.declared.state.CellState.TheVariants.{Free};
+ghost use Rattle.key_cells.specs.{Layout.cell_count, Contents.cell_state, Contents.has_id, Contents.is_open, Contents.IsSure, Contents.IsFull, Contents.IsFirstWithoutKey, Contents.HasNoKey, Contents.IsFirstWithKey, Directory.HasBeside, Directory.is_in_doubt};
+
+use crate::CellState;
+use crate::cells::CELLS;
+use key_index::KeyIndex;
+use psa_status::Memory;
+use std::alloc::Global;
+use std::marker::Model;
+
+/// What is known of each cell. No two have keys of one identifier.
+#[derive(Drop)]
+pub struct Directory {
+    states: Vec<CellState>,
+    // the open cells, by the identifiers of their keys
+    index: Box<KeyIndex<CELLS>>,
+    // each cell before this one is open
+    first: usize,
+    // how many cells are in doubt
+    in_doubt: usize,
+}
+
+impl Model for Directory {
+    ghost use Rattle.std.specs.Prelude.{List};
+    ghost use Rattle.key_cells.specs.declared.state.CellState.{CellState};
+    ghost use Rattle.key_cells.specs.Directory.{AreIndexed};
+
+    ghost Value = { List CellState };
+
+    ghost view = { λ d. d.states.items };
+
+    ghost invariant = { λ d. AreIndexed d.states.items d.index.value d.first d.in_doubt };
+}
+
+// Takes out of an index what it has of a cell with this state, and answers how many cells are then in doubt.
+fn take_out(index: &mut KeyIndex<CELLS>, in_doubt: usize, cell: usize, state: CellState) -> usize
+    requires within { cell < cell_count }
+    requires alone { (id : ℕ) → has_id id state ≡ true → IsAlone id cell index.old }
+    requires some { is_in_doubt state ≡ true → 0 < in_doubt }
+    ensures { HasBeside state cell index.old index.new in_doubt result }
+{
+    match state {
+        CellState::Free => in_doubt,
+        CellState::Open { id, .. } => {
+            index.remove(id, cell as u32);
+            in_doubt
+        }
+        CellState::Shut | CellState::Unsure => in_doubt - 1,
+    }
+}
+
+// Puts into an index what it is to have of a cell with this state, and answers how many cells are then in doubt.
+fn put_in(index: &mut KeyIndex<CELLS>, in_doubt: usize, cell: usize, state: CellState) -> usize
+    requires within { cell < cell_count }
+    requires room { is_open state ≡ true → length index.old < cell_count }
+    requires few { in_doubt < cell_count }
+    requires missing { (id i : ℕ) → has_id id state ≡ true → entries_of id i index.old ≡ 0 }
+    ensures { HasBeside state cell index.new index.old result in_doubt }
+{
+    match state {
+        CellState::Free => in_doubt,
+        CellState::Open { id, .. } => {
+            index.insert(id, cell as u32);
+            in_doubt
+        }
+        CellState::Shut | CellState::Unsure => in_doubt + 1,
+    }
+}
+
+// Where the first cell may be that isn't open, once a cell has this state.
+fn first_after(first: usize, cell: usize, state: CellState) -> usize
+    requires within { cell < cell_count }
+    ensures { (k : ℕ) → k < result → ((k < first) × (k ≢ cell)) ⊎ ((k ≡ cell) × (is_open state ≡ true)) }
+{
+    if !state.has_key() {
+        return first.min(cell);
+    }
+    if cell == first { first + 1 } else { first }
+}
+
+impl Directory {
+    /// Each cell free; `Memory` where there is no room.
+    pub(crate) fn new(alloc: Global) -> Result<Directory, Memory>
+        ensures { IfOk result (λ directory. directory ≡ replicate cell_count Free) }
+    {
+        let Ok(states) = vec![in alloc; CellState::Free; CELLS] else {
+            return Err(Memory);
+        };
+        let Ok(index) = Box::new(alloc, KeyIndex::new()) else {
+            return Err(Memory);
+        };
+        Ok(Directory {
+            states,
+            index,
+            first: 0,
+            in_doubt: 0,
+        })
+    }
+
+    /// What is known of a cell.
+    pub fn state(&self, cell: usize) -> CellState
+        requires { cell < length self.now }
+        ensures { result ≡ cell_state self.now cell }
+    {
+        self.states[cell]
+    }
+
+    /// Sets what is known of a cell. Where that is a key, no cell has one of its identifier yet.
+    pub(crate) fn set(&mut self, cell: usize, state: CellState)
+        requires within { cell < cell_count }
+        requires new { (id : ℕ) → has_id id state ≡ true → HasNoKey self.old id }
+        ensures { self.new ≡ set self.old cell state }
+    {
+        let left = take_out(&mut self.index, self.in_doubt, cell, self.states[cell]);
+        self.in_doubt = put_in(&mut self.index, left, cell, state);
+        self.first = first_after(self.first, cell, state);
+        self.states[cell] = state;
+    }
+
+    /// The cell of the key of this identifier.
+    pub fn find(&self, id: u32) -> Option<usize>
+        ensures { MatchOption result (HasNoKey self.now id) (λ cell. IsFirstWithKey self.now id cell) }
+    {
+        match self.index.find(id) {
+            Some(cell) => Some(cell as usize),
+            None => None,
+        }
+    }
+
+    /// The first cell without a key.
+    pub fn first_without_key(&self) -> Option<usize>
+        ensures { MatchOption result (IsFull self.now) (λ cell. IsFirstWithoutKey self.now cell) }
+    {
+        for cell in self.first..CELLS {
+            if !self.states[cell].has_key() {
+                return Some(cell);
+            }
+        }
+        None
+    }
+
+    /// Whether no cell is in doubt.
+    pub fn is_sure(&self) -> bool
+        ensures { IsTrue result ↔ IsSure self.now }
+    {
+        self.in_doubt == 0
+    }
+
+    /// How many cells are open.
+    pub fn count(&self) -> usize
+        ensures count { result ≡ count_by is_open self.now }
+        ensures sized { length self.now ≡ cell_count }
+    {
+        self.index.len()
+    }
+}
