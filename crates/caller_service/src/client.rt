@@ -1,8 +1,7 @@
 // A caller that makes its calls by their names, and the one way in which they are made.
 ghost use Rattle.std.specs.Prelude.{◌≡◌, ◌≤◌, []};
 ghost use Rattle.service_calls.specs.Asked.{computes, sets_up_with};
-ghost use Rattle.caller_service.specs.Given.{nothing};
-ghost use Rattle.caller_service.specs.Replies.{MayCall, steps_on};
+ghost use Rattle.caller_service.specs.{Given.nothing, Replies.MayCall, Replies.steps_on};
 
 use crate::replies::{Given, Reply};
 use crate::service::Service;

@@ -1,8 +1,7 @@
 // How the callers of a service end.
 ghost use Rattle.std.specs.Prelude.{◌≡◌, ◌<◌, ◌+◌, ◌++◌, ℕ, All, length, map, reverse};
 ghost use Rattle.turn_history.specs.Prelude.{account_of};
-ghost use Rattle.callers.specs.Ready.{IsReady};
-ghost use Rattle.callers.specs.Retired.{IsRetired};
+ghost use Rattle.callers.specs.{Ready.IsReady, Retired.IsRetired};
 ghost use Rattle.locked_store.specs.Prelude.{world};
 ghost use Rattle.caller_service.specs.Closing.{WereRetired};
 

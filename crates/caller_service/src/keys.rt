@@ -5,8 +5,7 @@ ghost use Rattle.service_calls.specs.declared.store_calls.Creation.TheVariants a
 ghost use Rattle.service_calls.specs.declared.store_calls.HashCall.TheVariants as hash_calls;
 ghost use Rattle.service_calls.specs.declared.store_calls.KeyChange.TheVariants as key_changes;
 ghost use Rattle.service_calls.specs.declared.store_calls.KeyedCall.TheVariants as keyed;
-ghost use Rattle.caller_service.specs.Given.{description_of, identifier_of, length_of, nothing};
-ghost use Rattle.caller_service.specs.Clients.{Answers};
+ghost use Rattle.caller_service.specs.{Given.description_of, Given.identifier_of, Given.length_of, Given.nothing, Clients.Answers};
 
 use crate::client::Client;
 use crate::replies::Reply;

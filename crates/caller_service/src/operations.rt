@@ -12,9 +12,7 @@ ghost use Rattle.service_calls.specs.declared.steps.DerivationStep.TheVariants a
 ghost use Rattle.service_calls.specs.declared.steps.HashStep.TheVariants as hash_steps;
 ghost use Rattle.service_calls.specs.declared.steps.MacStep.TheVariants as mac_steps;
 ghost use Rattle.service_calls.specs.declared.steps.Step.TheVariants as steps;
-ghost use Rattle.caller_service.specs.Clients.{Answers};
-ghost use Rattle.caller_service.specs.Given.{identifier_of, length_of, nothing, number_of};
-ghost use Rattle.caller_service.specs.Replies.{steps_on};
+ghost use Rattle.caller_service.specs.{Clients.Answers, Given.identifier_of, Given.length_of, Given.nothing, Given.number_of, Replies.steps_on};
 
 use crate::client::Client;
 use crate::replies::Reply;

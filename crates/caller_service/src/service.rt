@@ -6,9 +6,7 @@ ghost use Rattle.service_calls.specs.Meanings.{model_request};
 ghost use Rattle.store_model.specs.Prelude.{Service as model_Service, IsSoundStore};
 ghost use Rattle.locked_store.specs.Prelude.{FindsKeysIn, IsNotOpened, IsOpenedOn, IsStartOf, world};
 ghost use Rattle.callers.specs.Prelude.{HasCounted, IsAnswered, IsOverBudget, IsReady};
-ghost use Rattle.caller_service.specs.Closing.{IsClosedOver, WereRetired};
-ghost use Rattle.caller_service.specs.Allotments.{IsAllotment};
-ghost use Rattle.caller_service.specs.Staff.{AreStaff};
+ghost use Rattle.caller_service.specs.{Closing.IsClosedOver, Closing.WereRetired, Allotments.IsAllotment, Staff.AreStaff};
 
 use crate::allotments::{self, Allotment};
 use crate::closing::{hand_in, retire_all};

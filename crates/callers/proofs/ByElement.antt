@@ -2,14 +2,12 @@
 use Rattle.callers.proofs.Common.{AnswersCall, AnswersReply, Bool, Call, Ctr, ElementCall, Entry, Err, Failed, FaultMark, HandleOperation, Hardware, HasDrawn, InvalidSignature, IsElementAnswered, IsOfElement, IsOwnPart, IsReplied, IsSound, Key, KeyedCall, List, MatchOption, None, NotComputed, Ok, OnStore, Option, Output, Plain, Random, Refused, Reply, Request, Result, Rows, Service, Some, Status, Store, all_rows, ap, arith, asks_device, buffer_after, bytes_of_key, computed_unless, cond, counted, drawn_by, drop, element_reply, enciphered, false, first_row, first_row-back, first_row-front, given, has_vector, if◌then◌else◌, inl, inr, is_ok, is_some, key_rows, length, mark_computed, marked_reply, model_call, model_keyed_call, nat_lt, next_random, own_of, plain_step, refl, refusal, replies, reply_on, reply_unless, rows_before, serve, step, subst, sym, take, takes_vector, true, words_used, ℕ, ◌&&◌, ◌++◌, ◌+◌, ◌∙◌, ◌≡◌, ◌≤◌, ◌⊎◌}
 use Rattle.std.specs.FinMap as map
 use Rattle.std.specs.Prelude.{◌||◌, ◌-◌}
-use Rattle.std.proofs.lemmas.Bool.Decides.{nat_tests}
-use Rattle.std.proofs.lemmas.List.{length-take-le, take-append-drop}
+use Rattle.std.proofs.{lemmas.Bool.Decides.nat_tests, lemmas.List.length-take-le, lemmas.List.take-append-drop}
 use Rattle.service_calls.specs.Answers.{GivesBytes}
 use Rattle.store_model.specs.Prelude.{MayBeMarked, done, tag_bytes}
 use Rattle.callers.specs.Called.{GivesSome, MayCompute}
-use Rattle.secure_element_calls.specs.Calls.{needed_by}
+use Rattle.secure_element_calls.specs.{Calls.needed_by, declared.calls.ElementCall.TheVariants.MacCompute, declared.calls.ElementCall.TheVariants.MacVerify, declared.calls.ElementCall.TheVariants.CtrEncrypt, declared.calls.ElementCall.TheVariants.CtrDecrypt}
 use Rattle.driver_dispatch.specs.Held.{HeldKeys}
-use Rattle.secure_element_calls.specs.declared.calls.ElementCall.TheVariants.{MacCompute, MacVerify, CtrEncrypt, CtrDecrypt}
 use Rattle.secure_element_calls.proofs.{Answering.filled, Answering.refused_before, Replying.asks, Replying.replies_are}
 use Rattle.callers.proofs.Owned.{failed_own, stored_own}
 

@@ -1,11 +1,9 @@
 -- Where the mark of a call may stand, by what its turn decided.
 use Rattle.callers.proofs.Common.{Attributes, Copy, Destroy, FaultMark, IsRefused, IsUncopied, IsUndestroyed, IsUnmade, Key, List, NotCopied, NotDestroyed, NotMade, Ok, OnStore, Option, Plain, Reply, Request, Result, Service, Some, Status, Store, ap, asks_device, bytes_of_key, cond, created, created_unless, false, false≢true, id_read, is_destruction, is_opaque_key, mark_of, mark_uncopied, mark_undestroyed, mark_unmade, not, plain_step, refl, status_of, subst, sym, there_rows, ℕ, ◌∙◌, ◌≡◌}
 use Rattle.std.specs.FinMap as map
-use Rattle.std.specs.Prelude.{◌||◌}
-use Rattle.std.specs.Option.{option_and_then}
+use Rattle.std.specs.{Prelude.◌||◌, Option.option_and_then}
 use Rattle.psa_status.specs.declared.Status.TheVariants as status
-use Rattle.store_model.specs.Prelude.{MayBeMarked, is_persistent_key, key_answered, key_changed}
-use Rattle.store_model.specs.Creation.{new_id, new_key}
+use Rattle.store_model.specs.{Prelude.MayBeMarked, Prelude.is_persistent_key, Prelude.key_answered, Prelude.key_changed, Creation.new_id, Creation.new_key}
 use Rattle.store_core.specs.declared.copying.NotCopied.TheVariants as uncopied
 use Rattle.store_core.specs.declared.creating.NotMade.TheVariants as unmade
 use Rattle.store_core.specs.declared.creating.Unkept.TheVariants as unkept

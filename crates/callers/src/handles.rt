@@ -4,15 +4,11 @@ ghost use Rattle.std.specs.Option.{option_map};
 ghost use Rattle.random_streams.specs.RandomWords.{drawn_from};
 ghost use Rattle.secret_bytes.specs.Buffer.{bytes_of};
 ghost use Rattle.key_policy.specs.Uses.{FitsUse, used_for};
-ghost use Rattle.service_calls.specs.Answers.{plain_reply};
-ghost use Rattle.service_calls.specs.Answered.{AnswersReply};
+ghost use Rattle.service_calls.specs.{Answers.plain_reply, Answered.AnswersReply};
 ghost use Rattle.store_model.specs.Prelude.{buffer_after, HandleOperation, KeyCreation, Inactive, is_inactive};
-ghost use Rattle.operation_handles.specs.Handles.{IsOperation};
-ghost use Rattle.operation_handles.specs.Draws.{DrawsFew};
-ghost use Rattle.operation_handles.specs.Setups.{begun_with, set_up_without_key};
+ghost use Rattle.operation_handles.specs.{Handles.IsOperation, Draws.DrawsFew, Setups.begun_with, Setups.set_up_without_key};
 ghost use Rattle.operation_handles.specs.declared.handle.OperationHandle as handle;
-ghost use Rattle.callers.specs.Handles.{AreOperations, HoldsLease, IsChanged, operation_at};
-ghost use Rattle.callers.specs.HandleCalls.{stepped_at};
+ghost use Rattle.callers.specs.{Handles.AreOperations, Handles.HoldsLease, Handles.IsChanged, Handles.operation_at, HandleCalls.stepped_at};
 
 use key_policy::NamedAlgorithm;
 use operation_handles::OperationHandle;

@@ -1,8 +1,7 @@
 -- What the secure element has answered, and what a look for its key found.
 use Rattle.locked_store.proofs.Common.{IsElementAnswered, List, Option, Result, is_some, ℕ, ◌∙◌, ◌≡◌}
 use Rattle.driver_dispatch.specs.Held.{HeldKeys}
-use Rattle.secure_element_calls.specs.declared.calls.ElementCall.{ElementCall}
-use Rattle.secure_element_calls.specs.declared.calls.NotComputed.{NotComputed}
+use Rattle.secure_element_calls.specs.{declared.calls.ElementCall.ElementCall, declared.calls.NotComputed.NotComputed}
 use Rattle.store_model.specs.Prelude.{Store}
 
 -- devices that tell as much

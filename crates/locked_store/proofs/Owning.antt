@@ -1,8 +1,6 @@
 -- What one caller has out, among what all have.
 use Rattle.locked_store.proofs.Common.{AreHoldings, Bool, Gains, HasNoFilling, HasRoomForLease, IsHolding, List, Pairs, [], ap, arith, cond, count_by, eqb, false, get_or, get_or-set_same, held_by, length, length-set, named, names, nat_lt, refl, same, set, subst, suc, true, with_held_by, without_pair, zero, ℕ, ◌&&◌, ◌+◌, ◌-◌, ◌<◌, ◌==◌, ◌∙◌, ◌∷◌, ◌≡◌, ◌≤◌}
-use Rattle.std.proofs.lemmas.Bool.Decides.{nat_tests}
-use Rattle.std.proofs.lemmas.List.Elements.{All-get_or, All-set}
-use Rattle.std.proofs.lemmas.List.Sums.{sum_by-cons}
+use Rattle.std.proofs.{lemmas.Bool.Decides.nat_tests, lemmas.List.Elements.All-get_or, lemmas.List.Elements.All-set, lemmas.List.Sums.sum_by-cons}
 
 named_set : (i n j : ℕ) (all : List Pairs) (own : Pairs) → j < length all → named i n (set all j own) + names i n (get_or all j []) ≡ named i n all + names i n own
 named_set i n j [] own lt = absurd (omega arith)

@@ -2,8 +2,7 @@
 use Rattle.locked_store.proofs.Common.{AllByRecursion, AreHoldings, AreRising, DecidesAfter, Entry, FaultMark, HasModel, HoldsHistory, IsAt, IsBegun, IsCaller, IsCaused, IsClear, IsEntered, IsEntry, IsHolding, IsLater, IsLegal, IsReading, IsStartOf, IsTold, List, None, Opened, Opening, Option, OwnCalls, Pairs, ReadsKey, Request, Seat, Service, Some, StandsFor, Store, ToldBy, View, World, [], after_change, after_turn, ap, append-nil, arith, caller_of, entries_of, false, has_model, id_read, inl, inr, is_some, length, may_change_keys, opening_of, option_list, refl, replay, subst, sym, true, turn_entry, with_held_by, ℕ, ⊎_elim, ◌++◌, ◌∙◌, ◌∷◌, ◌≡◌, ◌≤◌, store_size}
 use Rattle.store_model.specs.Store as model
 use Rattle.locked_store.specs.declared.changes.Change.{Change}
-use Rattle.locked_store.proofs.Owning.{holding_of}
-use Rattle.locked_store.proofs.Passing.{after_one, goes_on, signed_front, with_entry}
+use Rattle.locked_store.proofs.{Owning.holding_of, Passing.after_one, Passing.goes_on, Passing.signed_front, Passing.with_entry}
 
 -- a model of which Q holds where P does, known where less is
 pub model_as : {K K' : Type 0} {start : Service} {h : List Entry} {P Q : model.Store → Type 0} → (K' → K) → ((m : model.Store) → P m → Q m) → HasModel K start h P → HasModel K' start h Q

@@ -7,9 +7,7 @@ ghost use Rattle.service_calls.specs.Meanings.{model_request};
 ghost use Rattle.store_model.specs.Call as model;
 ghost use Rattle.store_model.specs.Prelude.{Plain, OnStore};
 ghost use Rattle.store_core.specs.Prelude.{IsMade, IsUncopied, IsUnmade, RecordsCopy, RecordsStated, mark_uncopied, mark_unmade};
-ghost use Rattle.locked_store.specs.Turning.{CreatesKey, HasNoFilling, IsAt, IsLater, IsLegal, IsOwn, filling_pair, without_pair};
-ghost use Rattle.locked_store.specs.Ranked.{RanksFilling};
-ghost use Rattle.locked_store.specs.Shared.{world};
+ghost use Rattle.locked_store.specs.{Turning.CreatesKey, Turning.HasNoFilling, Turning.IsAt, Turning.IsLater, Turning.IsLegal, Turning.IsOwn, Turning.filling_pair, Turning.without_pair, Ranked.RanksFilling, Shared.world};
 
 use crate::changes::{Change, Met};
 use crate::held::{Held, SharedStore};

@@ -2,16 +2,11 @@
 ghost use Rattle.std.specs.Prelude.{◌≡◌, ◌<◌, length};
 ghost use Rattle.secret_bytes.specs.Buffer.{IsClear};
 ghost use Rattle.turn_history.specs.Prelude.{entries_of};
-ghost use Rattle.secure_element_calls.specs.Answers.{mark_computed};
-ghost use Rattle.secure_element_calls.specs.Calls.{model_call};
+ghost use Rattle.secure_element_calls.specs.{Answers.mark_computed, Calls.model_call};
 ghost use Rattle.service_calls.specs.Meanings.{model_request};
 ghost use Rattle.store_model.specs.Prelude.{OnStore};
 ghost use Rattle.store_core.specs.Prelude.{HasOpaque, IsElementAnswered};
-ghost use Rattle.locked_store.specs.Elements.{IsLooked};
-ghost use Rattle.locked_store.specs.Standing.{HoldsHistory};
-ghost use Rattle.locked_store.specs.Turning.{HasRoomForLease, IsAt, IsLegal, IsBegun};
-ghost use Rattle.locked_store.specs.Ranked.{EndsAfter};
-ghost use Rattle.locked_store.specs.Shared.{world};
+ghost use Rattle.locked_store.specs.{Elements.IsLooked, Standing.HoldsHistory, Turning.HasRoomForLease, Turning.IsAt, Turning.IsLegal, Turning.IsBegun, Ranked.EndsAfter, Shared.world};
 
 use crate::changes::{Change, Met};
 use crate::held::{Held, SharedStore};

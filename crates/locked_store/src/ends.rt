@@ -3,10 +3,7 @@ ghost use Rattle.std.specs.Prelude.{◌≡◌, ◌<◌, Some, None};
 ghost use Rattle.turn_history.specs.Prelude.{entries_of};
 ghost use Rattle.key_slots.specs.Holdings.{IsHolding};
 ghost use Rattle.service_calls.specs.Meanings.{model_request};
-ghost use Rattle.locked_store.specs.Standing.{HoldsHistory};
-ghost use Rattle.locked_store.specs.Turning.{IsAt, IsBegun, IsEntered, IsLater, IsLegal, after_change, mark_met};
-ghost use Rattle.locked_store.specs.Left.{StandsRanked, StandsUnranked, entry_left};
-ghost use Rattle.locked_store.specs.Shared.{world};
+ghost use Rattle.locked_store.specs.{Standing.HoldsHistory, Turning.IsAt, Turning.IsBegun, Turning.IsEntered, Turning.IsLater, Turning.IsLegal, Turning.after_change, Turning.mark_met, Left.StandsRanked, Left.StandsUnranked, Left.entry_left, Shared.world};
 
 use crate::changes::{Change, Met};
 use crate::held::{Entry, Held, SharedStore};

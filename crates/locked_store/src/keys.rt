@@ -7,9 +7,7 @@ ghost use Rattle.service_calls.specs.Meanings.{model_request};
 ghost use Rattle.store_model.specs.Call as model;
 ghost use Rattle.store_model.specs.Prelude.{Plain, may_change_keys, OnStore};
 ghost use Rattle.store_core.specs.Prelude.{HasAttributes, IsUndestroyed, MayDestroy, mark_undestroyed, there_rows};
-ghost use Rattle.locked_store.specs.Turning.{IsAt, IsLegal, LeavesAllKeys, ReadsKey};
-ghost use Rattle.locked_store.specs.Ranked.{RanksAfter, RanksBefore, RanksRefused};
-ghost use Rattle.locked_store.specs.Shared.{world};
+ghost use Rattle.locked_store.specs.{Turning.IsAt, Turning.IsLegal, Turning.LeavesAllKeys, Turning.ReadsKey, Ranked.RanksAfter, Ranked.RanksBefore, Ranked.RanksRefused, Shared.world};
 
 use crate::changes::{Change, Met};
 use crate::held::{Held, SharedStore};

@@ -7,10 +7,7 @@ ghost use Rattle.key_policy.specs.Uses.{FitsUse, use_refusal};
 ghost use Rattle.service_calls.specs.Meanings.{model_request};
 ghost use Rattle.store_model.specs.Prelude.{may_change_keys};
 ghost use Rattle.store_core.specs.Prelude.{IsLent};
-ghost use Rattle.locked_store.specs.Standing.{HoldsHistory};
-ghost use Rattle.locked_store.specs.Turning.{HasRoomForLease, IsAt, IsBegun, IsLater, IsLegal, ReadsKey, lease_pair, without_pair};
-ghost use Rattle.locked_store.specs.Ranked.{EndsLent, EndsRefused, RanksLent, RanksRefused};
-ghost use Rattle.locked_store.specs.Shared.{world};
+ghost use Rattle.locked_store.specs.{Standing.HoldsHistory, Turning.HasRoomForLease, Turning.IsAt, Turning.IsBegun, Turning.IsLater, Turning.IsLegal, Turning.ReadsKey, Turning.lease_pair, Turning.without_pair, Ranked.EndsLent, Ranked.EndsRefused, Ranked.RanksLent, Ranked.RanksRefused, Shared.world};
 
 use crate::changes::{Change, Met};
 use crate::held::{Held, SharedStore};

@@ -3,11 +3,7 @@ ghost use Rattle.std.specs.Prelude.{◌≡◌, ◌≤◌, ℕ, [], IfOk, IfErr, 
 ghost use Rattle.driver_dispatch.specs.Calls.{Lacks};
 ghost use Rattle.turn_history.specs.Prelude.{AreNew};
 ghost use Rattle.store_model.specs.Prelude.{Service, IsSoundStore};
-ghost use Rattle.locked_store.specs.Closed.{AreAt, IsClosed};
-ghost use Rattle.locked_store.specs.Turning.{IsStartOf};
-ghost use Rattle.locked_store.specs.Opening.{FindsKeysIn, IsNotOpened, IsOpenedOn};
-ghost use Rattle.locked_store.specs.Shared.{world};
-ghost use Rattle.locked_store.specs.Worlds.{world_of};
+ghost use Rattle.locked_store.specs.{Closed.AreAt, Closed.IsClosed, Turning.IsStartOf, Opening.FindsKeysIn, Opening.IsNotOpened, Opening.IsOpenedOn, Shared.world, Worlds.world_of};
 
 use crate::held::{Held, Seen, SharedStore};
 use admission::Admission;

@@ -7,9 +7,7 @@ ghost use Rattle.key_slots.specs.Holdings.{names};
 ghost use Rattle.service_calls.specs.Meanings.{model_request};
 ghost use Rattle.store_model.specs.Prelude.{Plain, HasNumber};
 ghost use Rattle.store_core.specs.Prelude.{HasAttributes, IsRefused, mark_of, there_rows};
-ghost use Rattle.locked_store.specs.Turning.{IsAt, IsLegal, IsRanked, LeavesAllKeys};
-ghost use Rattle.locked_store.specs.Ranked.{RanksAfter};
-ghost use Rattle.locked_store.specs.Shared.{world};
+ghost use Rattle.locked_store.specs.{Turning.IsAt, Turning.IsLegal, Turning.IsRanked, Turning.LeavesAllKeys, Ranked.RanksAfter, Shared.world};
 
 use crate::changes::{Change, Met};
 use crate::held::{Held, SharedStore};

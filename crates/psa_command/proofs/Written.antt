@@ -1,9 +1,7 @@
 -- Pieces that are written one after another.
 use Rattle.std.proofs.Common.{List, None, Option, Some, [], ap, append_assoc, drop, flat_map, get_or, length, sym, take, ℕ, ◌++◌, ◌+◌, ◌<◌, ◌∙◌, ◌∷◌, ◌≡◌}
 use Rattle.psa_command.proofs.Common.{Appends}
-use Rattle.std.proofs.Math.Seq.{take-append-add, take-append_seam}
-use Rattle.std.proofs.lemmas.Grind.{flat_map-append}
-use Rattle.std.proofs.lemmas.List.{append-nil, drop_more, take-append-drop, take_more}
+use Rattle.std.proofs.{Math.Seq.take-append-add, Math.Seq.take-append_seam, lemmas.Grind.flat_map-append, lemmas.List.append-nil, lemmas.List.drop_more, lemmas.List.take-append-drop, lemmas.List.take_more}
 
 pub appends_both : (old mid new : Option (List ℕ)) (front piece : List ℕ) → Appends old mid front → Appends mid new piece → Appends old new (front ++ piece)
 appends_both None mid new front piece a b = tt

@@ -1,6 +1,5 @@
 // Laws of runs, each the contract of a function that does nothing.
-ghost use Rattle.session_host.specs.Bounds.{LinesAreBounded, MarksAreBounded};
-ghost use Rattle.session_host.specs.Replayed.{SessionsAreReplayed};
+ghost use Rattle.session_host.specs.{Bounds.LinesAreBounded, Bounds.MarksAreBounded, Replayed.SessionsAreReplayed};
 
 use admission::Admission;
 use disk_face::Disk;

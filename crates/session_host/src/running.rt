@@ -3,9 +3,7 @@ ghost use Rattle.std.specs.Prelude.{◌≡◌, ◌≤◌, ◌<◌, ◌*◌, [], 
 ghost use Rattle.locked_store.specs.Prelude.{world};
 ghost use Rattle.caller_service.specs.Staff.{AreStaff};
 ghost use Rattle.script_lang.specs.Prelude.{IsOfSession};
-ghost use Rattle.session_host.specs.Workers.{HasWorked, HaveRun};
-ghost use Rattle.session_host.specs.Dealing.{IsFree};
-ghost use Rattle.session_host.specs.Running.{HaveKept, HaveMade, HaveSeen};
+ghost use Rattle.session_host.specs.{Workers.HasWorked, Workers.HaveRun, Dealing.IsFree, Running.HaveKept, Running.HaveMade, Running.HaveSeen};
 
 use crate::dealing::{SESSIONS, deal, free, gather, new_workers};
 use crate::worker::Worker;

@@ -5,8 +5,7 @@ ghost use Rattle.locked_store.specs.Prelude.{world};
 ghost use Rattle.store_model.specs.Prelude.{Reply};
 ghost use Rattle.script_lang.specs.Prelude.{request_of, AreKept, ReplyLine};
 ghost use Rattle.script_lang.specs.declared.script.ScriptLine as script_line;
-ghost use Rattle.session_host.specs.Replying.{IsNoted};
-ghost use Rattle.session_host.specs.Sessions.{HasAnswered, HasMade, IsMade, GoesFurther};
+ghost use Rattle.session_host.specs.{Replying.IsNoted, Sessions.HasAnswered, Sessions.HasMade, Sessions.IsMade, Sessions.GoesFurther};
 
 use crate::answers::note;
 use admission::Admission;

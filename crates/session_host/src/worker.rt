@@ -1,14 +1,12 @@
 // The sessions that one thread runs.
 ghost use Rattle.std.specs.Prelude.{◌≡◌, ◌≢◌, ◌⊎◌, ◌≤◌, ◌<◌, ◌+◌, ◌*◌, ◌++◌, ◌∷◌, [], ℕ, List, All, IfSome, IfNone, MatchResult, get_or, length, vec_capacity};
 ghost use Rattle.turn_history.specs.Prelude.{entries_of, StartsWith, IsIdle, watcher};
-ghost use Rattle.callers.specs.Called.{Legal};
-ghost use Rattle.callers.specs.Ready.{IsReady};
+ghost use Rattle.callers.specs.{Called.Legal, Ready.IsReady};
 ghost use Rattle.locked_store.specs.Prelude.{world};
 ghost use Rattle.script_lang.specs.declared.replies.ReplyForm as reply_form;
 ghost use Rattle.script_lang.specs.declared.script.ScriptLine as script_line;
 ghost use Rattle.session_host.specs.declared.session.Session as session;
-ghost use Rattle.session_host.specs.Sessions.{HasMade};
-ghost use Rattle.session_host.specs.Workers.{ChangesAt, HasLearned, HasSeated, HasWorked, HaveForm, HaveRun, numbers_of};
+ghost use Rattle.session_host.specs.{Sessions.HasMade, Workers.ChangesAt, Workers.HasLearned, Workers.HasSeated, Workers.HasWorked, Workers.HaveForm, Workers.HaveRun, Workers.numbers_of};
 ghost use Rattle.std.specs.Option.{option_to_list};
 
 use crate::session::Session;

@@ -1,7 +1,6 @@
 use Rattle.callers.proofs.Common.{DecidesBefore, IsMade, IsRanked, IsUnmade, Plain, RecordsStated, ap, fails, filling_pair, length, mark_unmade, model_request, option_map, refl, status_unmade, take, without_pair, world, ◌∷◌}
 use Rattle.callers.proofs.{Handling.goes_back, Handling.spent_back, Failing.stated_plainly, Failing.unmade_tells}
-use Rattle.callers.proofs.Outputting.{derived_creates, failed, output_answered, output_ready, taken, taken_is_out, unmade_answered, unmade_ready}
-use Rattle.callers.proofs.Storing.{created_in, creates_on, has_no_filling, if_err, if_ok}
+use Rattle.callers.proofs.{Outputting.derived_creates, Outputting.failed, Outputting.output_answered, Outputting.output_ready, Outputting.taken, Outputting.taken_is_out, Outputting.unmade_answered, Outputting.unmade_ready, Storing.created_in, Storing.creates_on, Storing.has_no_filling, Storing.if_err, Storing.if_ok}
 use Rattle.callers.proofs.caller.Caller.derive_key.Goals as goal
 
 pub reserve-filling-requires-clause-space : goal.reserve-filling-requires-clause-space

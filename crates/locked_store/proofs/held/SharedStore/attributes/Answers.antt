@@ -1,7 +1,6 @@
 use Rattle.locked_store.proofs.Common.{DecidesAfter, HasAttributes, IfErr-weaker, IfOk-weaker, IsRefused, Plain, ap, is_some, mark_of, model_request, there_rows, world}
-use Rattle.locked_store.proofs.Turns.{AreTurned, IsSteady, few, in_turn, ranks_err, ranks_ok, reads, stands_some, turned_after, turned_stands}
+use Rattle.locked_store.proofs.{Turns.AreTurned, Turns.IsSteady, Turns.few, Turns.in_turn, Turns.ranks_err, Turns.ranks_ok, Turns.reads, Turns.stands_some, Turns.turned_after, Turns.turned_stands, held.SharedStore.attributes.Goals.After-of}
 use Rattle.locked_store.proofs.held.SharedStore.attributes.Goals as goal
-use Rattle.locked_store.proofs.held.SharedStore.attributes.Goals.{After-of}
 
 pub attributes-found-requires-clause-stands : goal.attributes-found-requires-clause-stands
 attributes-found-requires-clause-stands g c κs within = stands_some (in_turn c.enter-turn.ensures.begun c.enter-turn.ensures.stands c.enter-turn.ensures.opened (ap (λ v. v.store) c.value.ensures.value))

@@ -1,9 +1,7 @@
 use Rattle.locked_store.proofs.Common.{DecidesAfter, HasOpaque, IsClear, IsElementAnswered, ap, is_some, length, mark_computed, model_request, subst, sym, world, ◌∙◌}
 use Rattle.secure_element_calls.specs.Calls.{model_call}
-use Rattle.locked_store.proofs.Computing.{as_known}
-use Rattle.locked_store.proofs.Turns.{IsSteady, IsTurned, entered_after, few, in_turn, led_weaker, makes, stands_some, turned_after}
+use Rattle.locked_store.proofs.{Computing.as_known, Turns.IsSteady, Turns.IsTurned, Turns.entered_after, Turns.few, Turns.in_turn, Turns.led_weaker, Turns.makes, Turns.stands_some, Turns.turned_after, held.SharedStore.compute_in.Goals.After-of}
 use Rattle.locked_store.proofs.held.SharedStore.compute_in.Goals as goal
-use Rattle.locked_store.proofs.held.SharedStore.compute_in.Goals.{After-of}
 
 pub opaque_call-computed-requires-clause-stands : goal.opaque_call-computed-requires-clause-stands
 opaque_call-computed-requires-clause-stands g c κs within = stands_some (in_turn c.requires.begun c.requires.stands c.requires.opened (ap (λ v. v.store) c.value.ensures.value))

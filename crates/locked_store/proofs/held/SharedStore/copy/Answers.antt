@@ -1,7 +1,6 @@
 use Rattle.locked_store.proofs.Common.{DecidesBefore, IfErr-weaker, IfOk-weaker, IsMade, IsUncopied, Plain, RecordsCopy, ap, filling_pair, mark_uncopied, model_request, without_pair, world}
-use Rattle.locked_store.proofs.Turns.{AreTurned, IsSteady, copies, few, in_turn, is_last, out, ranks_err, ranks_ok, turned_before, turned_stands}
+use Rattle.locked_store.proofs.{Turns.AreTurned, Turns.IsSteady, Turns.copies, Turns.few, Turns.in_turn, Turns.is_last, Turns.out, Turns.ranks_err, Turns.ranks_ok, Turns.turned_before, Turns.turned_stands, held.SharedStore.copy.Goals.After-of-2}
 use Rattle.locked_store.proofs.held.SharedStore.copy.Goals as goal
-use Rattle.locked_store.proofs.held.SharedStore.copy.Goals.{After-of-2}
 
 pub copy-copied-requires-clause-last : goal.copy-copied-requires-clause-last
 copy-copied-requires-clause-last g c κs within = is_last (in_turn c.enter-turn.ensures.begun c.enter-turn.ensures.stands c.enter-turn.ensures.opened (ap (λ v. v.store) c.value.ensures.value)) c.args.caller c.requires.caller

@@ -1,7 +1,6 @@
 use Rattle.locked_store.proofs.Common.{DecidesBefore, IfErr-weaker, IfOk-weaker, IsClear, IsUndestroyed, MayDestroy, Plain, ap, mark_undestroyed, model_request, subst, sym, world}
-use Rattle.locked_store.proofs.Turns.{AreTurned, IsSteady, destroys, few, in_turn, ranks_err, ranks_ok, stands_some, turned_before, turned_stands}
+use Rattle.locked_store.proofs.{Turns.AreTurned, Turns.IsSteady, Turns.destroys, Turns.few, Turns.in_turn, Turns.ranks_err, Turns.ranks_ok, Turns.stands_some, Turns.turned_before, Turns.turned_stands, held.SharedStore.destroy.Goals.After-of}
 use Rattle.locked_store.proofs.held.SharedStore.destroy.Goals as goal
-use Rattle.locked_store.proofs.held.SharedStore.destroy.Goals.{After-of}
 
 pub destroy-destroyed-requires-clause-stands : goal.destroy-destroyed-requires-clause-stands
 destroy-destroyed-requires-clause-stands g c κs within = stands_some (in_turn c.enter-turn.ensures.begun c.enter-turn.ensures.stands c.enter-turn.ensures.opened (ap (λ v. v.store) c.value.ensures.value))

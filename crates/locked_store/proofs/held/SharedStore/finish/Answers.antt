@@ -1,7 +1,6 @@
 use Rattle.locked_store.proofs.Common.{DecidesBefore, IfErr-weaker, IfOk-weaker, IsMade, IsUnmade, Plain, RecordsStated, ap, filling_pair, length, mark_unmade, model_request, option_map, without_pair, world}
-use Rattle.locked_store.proofs.Turns.{AreTurned, IsSteady, creates, few, in_turn, is_last, out_beside, ranks_err, ranks_ok, turned_before, turned_stands}
+use Rattle.locked_store.proofs.{Turns.AreTurned, Turns.IsSteady, Turns.creates, Turns.few, Turns.in_turn, Turns.is_last, Turns.out_beside, Turns.ranks_err, Turns.ranks_ok, Turns.turned_before, Turns.turned_stands, held.SharedStore.finish.Goals.After-of-2}
 use Rattle.locked_store.proofs.held.SharedStore.finish.Goals as goal
-use Rattle.locked_store.proofs.held.SharedStore.finish.Goals.{After-of-2}
 
 pub finish-made-requires-clause-last : goal.finish-made-requires-clause-last
 finish-made-requires-clause-last g c κs within = is_last (in_turn c.enter-turn.ensures.begun c.enter-turn.ensures.stands c.enter-turn.ensures.opened (ap (λ v. v.store) c.value.ensures.value)) c.args.caller c.requires.caller

@@ -1,6 +1,5 @@
 use Rattle.locked_store.proofs.Common.{IfErr-weaker, IsEntered, entries_of, mark_of, model_request, subst}
-use Rattle.locked_store.proofs.Renewing.{model_as}
-use Rattle.locked_store.proofs.Turns.{ranked}
+use Rattle.locked_store.proofs.{Renewing.model_as, Turns.ranked}
 use Rattle.locked_store.proofs.held.SharedStore.look.Goals as goal
 
 pub look_in-requires-clause-begun : goal.look_in-requires-clause-begun

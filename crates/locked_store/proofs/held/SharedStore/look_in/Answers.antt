@@ -1,11 +1,8 @@
 use Rattle.locked_store.proofs.Common.{DecidesAfter, HasOpaque, IsHolding, IsLent, IsRefused, Plain, ap, is_opaque_key, is_some, lease_pair, mark_of, model_request, subst, sym, true, use_refusal, world, ◌∷◌, ◌≡◌}
 use Rattle.std.specs.FinMap as map
 use Rattle.store_model.specs.Store as model
-use Rattle.locked_store.proofs.Owning.{one_lease_more}
-use Rattle.locked_store.proofs.Renewing.{model_as}
-use Rattle.locked_store.proofs.Turns.{IsSteady, IsTurned, entered_after, few, in_turn, reads, reads_and_gives, stands_some, turned_after}
+use Rattle.locked_store.proofs.{Owning.one_lease_more, Renewing.model_as, Turns.IsSteady, Turns.IsTurned, Turns.entered_after, Turns.few, Turns.in_turn, Turns.reads, Turns.reads_and_gives, Turns.stands_some, Turns.turned_after, held.SharedStore.look_in.Goals.After-of, held.SharedStore.look_in.Goals.In-Err}
 use Rattle.locked_store.proofs.held.SharedStore.look_in.Goals as goal
-use Rattle.locked_store.proofs.held.SharedStore.look_in.Goals.{After-of, In-Err}
 
 pub look-requires-clause-stands : goal.look-requires-clause-stands
 look-requires-clause-stands g c κs within = stands_some (in_turn c.requires.begun c.requires.stands c.requires.opened (ap (λ v. v.store) c.value.ensures.value))

@@ -1,9 +1,8 @@
 use Rattle.locked_store.proofs.Common.{DecidesAfter, FitsUse, IfErr-at_err, IfOk-at_ok, IsClear, IsEntered, IsEnteredAfter, IsLent, Plain, ap, bytes_of, entries_of, is_opaque_key, lease_pair, length, mark_computed, mark_of, model_request, refl, subst, sym, use_refusal, world, ◌∙◌, ◌∷◌}
 use Rattle.std.proofs.lemmas.Bool.{false_from_ne_true, false≢true}
 use Rattle.key_policy.proofs.Refusals.{local}
-use Rattle.locked_store.proofs.Renewing.{model_as}
+use Rattle.locked_store.proofs.{Renewing.model_as, Turns.in_turn, Turns.ranked}
 use Rattle.std.specs.FinMap as map
-use Rattle.locked_store.proofs.Turns.{in_turn, ranked}
 use Rattle.locked_store.proofs.held.SharedStore.look_or_compute.Goals as goal
 
 pub returns-then-is_opaque-clause-looked : goal.returns-then-is_opaque-clause-looked

@@ -1,8 +1,7 @@
 use Rattle.locked_store.proofs.Common.{DecidesAfter, Err, IfErr, IfErr-weaker, IfOk, IfOk-weaker, InvalidHandle, None, Ok, Plain, Result, Some, ap, model_request, there_rows, world, ◌≡◌}
 use Rattle.std.specs.FinMap as map
-use Rattle.locked_store.proofs.Turns.{IsTurned, counts_as, few, in_turn, ranked, steady, turned_after}
+use Rattle.locked_store.proofs.{Turns.IsTurned, Turns.counts_as, Turns.few, Turns.in_turn, Turns.ranked, Turns.steady, Turns.turned_after, held.SharedStore.purge.Goals.After-purge-purged}
 use Rattle.locked_store.proofs.held.SharedStore.purge.Goals as goal
-use Rattle.locked_store.proofs.held.SharedStore.purge.Goals.{After-purge-purged}
 
 pub purge-purged-requires-clause-few : goal.purge-purged-requires-clause-few
 purge-purged-requires-clause-few g c κs within = few (in_turn c.enter-turn.ensures.begun c.enter-turn.ensures.stands c.enter-turn.ensures.opened (ap (λ v. v.store) c.value.ensures.value))
