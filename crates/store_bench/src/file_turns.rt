@@ -44,8 +44,13 @@ pub fn fill(cells: &mut Cells<PlainDisk>) -> Result<(), CellFault>
     ensures slots { length cells.new.states ≡ cell_count }
 {
     for id in 1..513u32 {
-        if cells.find(id).is_none() {
-            cells.create(0, &one_byte_key(id), &[0xa5])?;
+        let key = one_byte_key(id);
+        // a creation asks that no cell has the identifier
+        match cells.find(key.id.0) {
+            Some(_cell) => {}
+            None => {
+                cells.create(0, &key, &[0xa5])?;
+            }
         }
     }
     Ok(())
