@@ -2,12 +2,9 @@
 use Rattle.admission.proofs.Common.{Bool, Err, IfOk, Label, List, Narrows, Ok, Result, [], after_rules, ap, cond, eqb, false, not, refl, true, ◌&&◌, ◌∙◌, ◌∷◌, ◌≡◌}
 use Rattle.key_attributes.specs.declared.Attributes.{Attributes}
 use Rattle.psa_status.specs.declared.Status.{Status}
-use Rattle.policy_rules.specs.declared.narrowing.Label.TheVariants.{NoExport, NoCopy, NoEcb, Aes256}
-use Rattle.policy_rules.specs.declared.narrowing.Verdict.{Verdict}
-use Rattle.policy_rules.specs.declared.narrowing.Verdict.TheVariants.{Keep, Refuse}
+use Rattle.policy_rules.specs.{declared.narrowing.Label.TheVariants.NoExport, declared.narrowing.Label.TheVariants.NoCopy, declared.narrowing.Label.TheVariants.NoEcb, declared.narrowing.Label.TheVariants.Aes256, declared.narrowing.Verdict.Verdict, declared.narrowing.Verdict.TheVariants.Keep, declared.narrowing.Verdict.TheVariants.Refuse}
 use Rattle.policy_rules.specs.Narrow.{names_ecb, narrowed, after_verdict, KeepsWithin}
-use Rattle.policy_rules.proofs.Rules.{narrowed-within}
-use Rattle.policy_rules.proofs.Copies.{IsWithin-refl, IsWithin-trans}
+use Rattle.policy_rules.proofs.{Rules.narrowed-within, Copies.IsWithin-refl, Copies.IsWithin-trans}
 
 -- a verdict leaves all but the policy
 abbrev KeepsRest : Attributes → Verdict → Type 0

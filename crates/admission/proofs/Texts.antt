@@ -1,9 +1,7 @@
 -- The first word of a text, and the others.
 use Rattle.admission.proofs.Common.{Bool, Label, List, None, Option, Some, [], ap, append_assoc, label_named, labels_in, labels_named, length, refl, subst, sym, ℕ, ◌++◌, ◌<◌, ◌==◌, ◌∙◌, ◌∷◌, ◌≡◌}
-use Rattle.std.specs.Option.{option_map, option_and_then}
-use Rattle.std.specs.List.{position_or_len, before_first, after_first}
-use Rattle.std.proofs.lemmas.List.Splits.{slice_split_first, slice_split_none}
-use Rattle.std.proofs.lemmas.List.Sums.{fails_before_first}
+use Rattle.std.specs.{Option.option_map, Option.option_and_then, List.position_or_len, List.before_first, List.after_first}
+use Rattle.std.proofs.{lemmas.List.Splits.slice_split_first, lemmas.List.Splits.slice_split_none, lemmas.List.Sums.fails_before_first}
 
 abbrev is_comma : ℕ → Bool
 is_comma byte = byte == 44

@@ -1,10 +1,8 @@
 -- What rules make of the attributes of a new key.
-use Rattle.std.specs.Prelude.{◌≡◌, Bool, List, bytes_eq, filter}
-use Rattle.std.specs.List.{list_any}
+use Rattle.std.specs.{Prelude.◌≡◌, Prelude.Bool, Prelude.List, Prelude.bytes_eq, Prelude.filter, List.list_any}
 use Rattle.key_attributes.specs.declared.Attributes.{Attributes}
 pub use Rattle.policy_rules.specs.Narrow.{after_rules}
-use Rattle.policy_rules.specs.Policy.{IsWithin}
-use Rattle.policy_rules.specs.declared.narrowing.Label.{Label}
+use Rattle.policy_rules.specs.{Policy.IsWithin, declared.narrowing.Label.Label}
 use Rattle.admission.specs.Words.{label_word}
 
 -- whether a label is one of these: they are told apart by their words

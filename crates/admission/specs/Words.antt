@@ -1,9 +1,6 @@
 -- The words of the labels.
-use Rattle.std.specs.Prelude.{ℕ, List, [], ◌∷◌, Option, Some, ◌==◌, bytes_eq, codes, find}
-use Rattle.std.specs.List.{slice_split}
-use Rattle.std.specs.Option.{option_map, option_and_then}
-use Rattle.policy_rules.specs.declared.narrowing.Label.{Label}
-use Rattle.policy_rules.specs.declared.narrowing.Label.TheVariants.{NoExport, NoCopy, NoEcb, Aes256}
+use Rattle.std.specs.{Prelude.ℕ, Prelude.List, Prelude.[], Prelude.◌∷◌, Prelude.Option, Prelude.Some, Prelude.◌==◌, Prelude.bytes_eq, Prelude.codes, Prelude.find, List.slice_split, Option.option_map, Option.option_and_then}
+use Rattle.policy_rules.specs.{declared.narrowing.Label.Label, declared.narrowing.Label.TheVariants.NoExport, declared.narrowing.Label.TheVariants.NoCopy, declared.narrowing.Label.TheVariants.NoEcb, declared.narrowing.Label.TheVariants.Aes256}
 
 abbrev pub label_word : Label → List ℕ
 label_word NoExport = codes "no-export"

@@ -1,7 +1,6 @@
 // A rule: a test that was handed in, and its label.
 ghost use Rattle.std.specs.Prelude.{◌≡◌};
-ghost use Rattle.policy_rules.specs.declared.narrowing.Verdict.{Verdict};
-ghost use Rattle.policy_rules.specs.Narrow.{narrowed};
+ghost use Rattle.policy_rules.specs.{declared.narrowing.Verdict.Verdict, Narrow.narrowed};
 
 use key_attributes::Attributes;
 use policy_rules::{Label, Verdict};

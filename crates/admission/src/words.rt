@@ -1,6 +1,5 @@
 // The labels in a word of the command line.
-ghost use Rattle.std.specs.Prelude.{◌≡◌, IfOk, map};
-ghost use Rattle.std.specs.Option.{option_map};
+ghost use Rattle.std.specs.{Prelude.◌≡◌, Prelude.IfOk, Prelude.map, Option.option_map};
 ghost use Rattle.admission.specs.Words.{label_named, labels_in, label_word};
 
 use crate::Rule;

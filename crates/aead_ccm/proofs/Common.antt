@@ -6,8 +6,6 @@ pub use Rattle.crypto_specs.proofs.XorBytes.{blocks_xored, length-xor_bytes, nex
 pub use Rattle.crypto_specs.specs.Prelude.{block_count, chain_step, encoded_length, filled_blocks, in_bytes, xor_bytes, zero_filled}
 unfoldable pub use Rattle.crypto_specs.specs.Prelude.{aes_encrypt, blocks, ccm_counter_block, ccm_stream, ccm_tag, ccm_text, chained, control_block, encoded_data, formatted_blocks, number_block}
 pub use Rattle.std.proofs.Common.{IsTrue, List, [], add-one, ap, ap₂, arith, bit_xor, drop, eqb, false, inl, inr, length, min, refl, replicate, slice_set, suc, sym, take, true, zero, ℕ, ◌%◌, ◌*◌, ◌++◌, ◌+◌, ◌-◌, ◌/◌, ◌<◌, ◌^◌, ◌↔◌, ◌∙◌, ◌∷◌, ◌≡◌, ◌≤◌}
-pub use Rattle.std.proofs.Math.Nat.{div-eq_of_lt, lt-div-mul-add, pow-le-pow_right}
-pub use Rattle.std.proofs.lemmas.Bool.{cases_lt, eq-eqb, eqb-true, le-ltb, lt-ltb, ne_eqb}
+pub use Rattle.std.proofs.{Math.Nat.div-eq_of_lt, Math.Nat.lt-div-mul-add, Math.Nat.pow-le-pow_right, lemmas.Bool.cases_lt, lemmas.Bool.eq-eqb, lemmas.Bool.eqb-true, lemmas.Bool.le-ltb, lemmas.Bool.lt-ltb, lemmas.Bool.ne_eqb}
 pub use Rattle.std.proofs.lemmas.List.{append-nil, append_assoc, drop-append-le, drop-drop, drop-replicate, drop_at, drop_min, length-append, length-drop, length-replicate, length-take, take-append-drop, take-append-le, take_all, take_min}
-pub use Rattle.std.specs.Int.{byte_at, bytes_high_first, to_be_bytes, w128, w16, w32, w64}
-pub use Rattle.std.specs.Int.Bits.{xor_zero_l, xor_zero_r}
+pub use Rattle.std.specs.{Int.byte_at, Int.bytes_high_first, Int.to_be_bytes, Int.w128, Int.w16, Int.w32, Int.w64, Int.Bits.xor_zero_l, Int.Bits.xor_zero_r}

@@ -1,6 +1,5 @@
 -- The chain of CCM, in parts.
-use Rattle.std.specs.Prelude.{ℕ, ◌-◌, List, ◌++◌, length, replicate}
-use Rattle.std.specs.List.{fold}
+use Rattle.std.specs.{Prelude.ℕ, Prelude.◌-◌, Prelude.List, Prelude.◌++◌, Prelude.length, Prelude.replicate, List.fold}
 use Rattle.crypto_specs.specs.Prelude.{chain_step}
 
 -- a part of a block, filled with zeros

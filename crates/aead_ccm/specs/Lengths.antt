@@ -1,6 +1,5 @@
 -- The lengths that CCM permits, in bytes (SP 800-38C, A.1).
-use Rattle.std.specs.Prelude.{ℕ, ◌-◌, ◌*◌, ◌^◌, ◌<◌, ◌≤◌, ◌==◌, IsTrue, [], ◌∷◌}
-use Rattle.std.specs.List.{list_any}
+use Rattle.std.specs.{Prelude.ℕ, Prelude.◌-◌, Prelude.◌*◌, Prelude.◌^◌, Prelude.◌<◌, Prelude.◌≤◌, Prelude.◌==◌, Prelude.IsTrue, Prelude.[], Prelude.◌∷◌, List.list_any}
 
 pub record IsNonceLength (n : ℕ) : Type 0 where
   pub low : 7 ≤ n

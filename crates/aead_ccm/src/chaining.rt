@@ -2,8 +2,7 @@
 
 ghost use Rattle.std.specs.Prelude.{◌≡◌, ◌^◌, ◌<◌, ◌∷◌, length};
 ghost use Rattle.crypto_specs.specs.Prelude.{aes_encrypt, IsKey, number_block, chained, control_block, encoded_data, filled_blocks};
-ghost use Rattle.aead_ccm.specs.Chaining.{chained_from};
-ghost use Rattle.aead_ccm.specs.Lengths.{IsNonceLength, IsTagLength};
+ghost use Rattle.aead_ccm.specs.{Chaining.chained_from, Lengths.IsNonceLength, Lengths.IsTagLength};
 
 use crate::formatting::{control_block, data_front};
 use aes_core::AesKey;

@@ -2,8 +2,7 @@
 
 ghost use Rattle.std.specs.Prelude.{◌≡◌, ℕ, ◌-◌, ◌+◌, ◌*◌, ◌^◌, ◌<◌, ◌≤◌, ◌∷◌, ◌++◌, length, take, drop, IsTrue, ◌↔◌};
 ghost use Rattle.crypto_specs.specs.Prelude.{number_block, ccm_counter_block, control_block, encoded_data, flags, in_bytes};
-ghost use Rattle.aead_ccm.specs.Chaining.{filled_block};
-ghost use Rattle.aead_ccm.specs.Lengths.{IsNonceLength, IsPayloadLength, IsTagLength};
+ghost use Rattle.aead_ccm.specs.{Chaining.filled_block, Lengths.IsNonceLength, Lengths.IsPayloadLength, Lengths.IsTagLength};
 
 use cipher_blocks::{number_of, put_at};
 

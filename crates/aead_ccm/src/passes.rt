@@ -3,8 +3,7 @@
 
 ghost use Rattle.std.specs.Prelude.{◌≡◌, ◌+◌, ◌*◌, ◌^◌, ◌<◌, ◌≤◌, length, bit_xor};
 ghost use Rattle.crypto_specs.specs.Prelude.{aes_encrypt, IsKey, xor_bytes, filled_blocks, block_count, number_block};
-ghost use Rattle.aead_ccm.specs.Chaining.{chained_from};
-ghost use Rattle.aead_ccm.specs.Counting.{masks};
+ghost use Rattle.aead_ccm.specs.{Chaining.chained_from, Counting.masks};
 
 use aes_core::AesKey;
 use cipher_blocks::{filled_number, xor_into};

@@ -1,6 +1,5 @@
 -- The lengths of nonces and tags, in bytes.
-use Rattle.std.specs.Prelude.{ℕ, ◌≤◌, ◌==◌, IsTrue, [], ◌∷◌}
-use Rattle.std.specs.List.{list_any}
+use Rattle.std.specs.{Prelude.ℕ, Prelude.◌≤◌, Prelude.◌==◌, Prelude.IsTrue, Prelude.[], Prelude.◌∷◌, List.list_any}
 
 -- a nonce has 1 to 256 bytes: longer ones, which SP 800-38D, 5.2.1.1, permits too, are not offered
 pub record IsNonceLength (n : ℕ) : Type 0 where

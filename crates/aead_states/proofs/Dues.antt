@@ -2,8 +2,7 @@
 use Rattle.std.proofs.Common.{Bool, List, [], ap, append_assoc, ap₂, arith, bit_xor, cond, false, length, refl, suc, sym, take, true, zero, ℕ, ◌*◌, ◌++◌, ◌+◌, ◌-◌, ◌∙◌, ◌∷◌, ◌≡◌, ◌≤◌}
 use Rattle.std.proofs.lemmas.List.{append-nil, length-append}
 use Rattle.crypto_specs.specs.Prelude.{aes_encrypt, xor_bytes, block_count, number_block, ccm_counter_block, ccm_stream, ccm_text, increased, initial_counter_block, gcm_stream, gcm_text}
-use Rattle.crypto_specs.proofs.Blocks.{length-aes_encrypt}
-use Rattle.crypto_specs.proofs.XorBytes.{length-xor_bytes}
+use Rattle.crypto_specs.proofs.{Blocks.length-aes_encrypt, XorBytes.length-xor_bytes}
 use Rattle.store_model.specs.Prelude.{bytes_or_empty, is_ccm, aead_due, with_payload}
 use Rattle.multipart.specs.Dues.{DueGrows}
 

@@ -1,14 +1,10 @@
 -- What runs, by the algorithm and the direction.
-use Rattle.std.proofs.Common.{Bool, List, MatchBool, [], false, length, refl, subst, sym, true, ℕ, ◌≡◌, ◌≤◌}
-use Rattle.std.proofs.lemmas.Bool.{MatchBool-at_true, MatchBool-at_false}
+use Rattle.std.proofs.{Common.Bool, Common.List, Common.MatchBool, Common.[], Common.false, Common.length, Common.refl, Common.subst, Common.sym, Common.true, Common.ℕ, Common.◌≡◌, Common.◌≤◌, lemmas.Bool.MatchBool-at_true, lemmas.Bool.MatchBool-at_false}
 use Rattle.crypto_specs.specs.Prelude.{aes_encrypt, ccm_tag, ccm_text, gcm_tag, gcm_text}
-use Rattle.aead_streams.specs.GcmStates.{HoldsGcmData, HoldsGcmText}
-use Rattle.aead_streams.specs.CcmStates.{HoldsCcmData, HoldsCcmText}
-use Rattle.aead_streams.proofs.GcmTexts.{length-gcm_text}
-use Rattle.aead_streams.proofs.CcmPayloads.{length-ccm_text}
+use Rattle.aead_streams.specs.{GcmStates.HoldsGcmData, GcmStates.HoldsGcmText, CcmStates.HoldsCcmData, CcmStates.HoldsCcmText}
+use Rattle.aead_streams.proofs.{GcmTexts.length-gcm_text, CcmPayloads.length-ccm_text}
 use Rattle.store_model.specs.Prelude.{aead_tag, aead_text, is_ccm, tag_bytes}
-use Rattle.aead_states.specs.declared.parts.Parts.{Parts}
-use Rattle.aead_states.specs.Runs.{cipher_of, plain_of, HoldsData, HoldsPayload}
+use Rattle.aead_states.specs.{declared.parts.Parts.Parts, Runs.cipher_of, Runs.plain_of, Runs.HoldsData, Runs.HoldsPayload}
 
 module _ (r : Parts) (alg : ℕ) (key nonce : List ℕ) (a p : ℕ) (ad : List ℕ) where
   pub ccm_data : is_ccm alg ≡ true → HoldsData r alg key nonce a p ad → HoldsCcmData r.ccm key (tag_bytes alg) nonce a p ad

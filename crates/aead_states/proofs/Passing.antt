@@ -1,9 +1,6 @@
 -- An update that no row refuses.
-use Rattle.std.proofs.Common.{Bool, List, None, Option, Some, ap, arith, cond, drop, false, length, not, refl, replicate, sym, true, ℕ, ◌++◌, ◌+◌, ◌-◌, ◌||◌, ◌∙◌, ◌≡◌, ◌≤◌}
-use Rattle.std.proofs.lemmas.List.{append-nil, drop_at}
-use Rattle.std.proofs.lemmas.Bool.{le-ltb}
-use Rattle.psa_status.specs.declared.Status.{Status}
-use Rattle.psa_status.specs.Rows.{first_row}
+use Rattle.std.proofs.{Common.Bool, Common.List, Common.None, Common.Option, Common.Some, Common.ap, Common.arith, Common.cond, Common.drop, Common.false, Common.length, Common.not, Common.refl, Common.replicate, Common.sym, Common.true, Common.ℕ, Common.◌++◌, Common.◌+◌, Common.◌-◌, Common.◌||◌, Common.◌∙◌, Common.◌≡◌, Common.◌≤◌, lemmas.List.append-nil, lemmas.List.drop_at, lemmas.Bool.le-ltb}
+use Rattle.psa_status.specs.{declared.Status.Status, Rows.first_row}
 use Rattle.psa_status.proofs.Rows.{first_row-back}
 use Rattle.store_model.specs.Prelude.{buffer_after, given, reply_unless, room_rows, AeadWork, aead_due, aead_fresh, aead_update_rows, is_past_payload, is_whole_ad, with_payload}
 use Rattle.aead_states.specs.Counted.{aead_text_rows}

@@ -1,7 +1,6 @@
 -- The first rows of an update, and the start of the text.
 use Rattle.std.specs.Prelude.{ℕ, ◌+◌, not, nat_lt, ◌||◌, true, [], ◌∷◌, length, is_some}
-use Rattle.psa_status.specs.declared.Status.TheVariants.{BadState, InvalidArgument}
-use Rattle.psa_status.specs.Rows.{Rows}
+use Rattle.psa_status.specs.{declared.Status.TheVariants.BadState, declared.Status.TheVariants.InvalidArgument, Rows.Rows}
 use Rattle.store_model.specs.Prelude.{total_limit, AeadWork, is_past_payload, is_whole_ad}
 
 -- the rows of aead_update before that of the room

@@ -3,10 +3,7 @@ use Rattle.std.specs.Prelude.{◌≡◌, true, false, [], length, is_some, IfSom
 use Rattle.store_model.specs.Prelude.{is_ccm, tag_bytes, Operation, bytes_or_empty, AeadWork, declared_payload}
 use Rattle.key_policy.specs.Names.{is_ccm as is_ccm_kind}
 use Rattle.multipart.specs.States.{StandsForOptional}
-use Rattle.aead_states.specs.declared.running.RunningAead.{RunningAead}
-use Rattle.aead_states.specs.declared.state.AeadState.{AeadState}
-use Rattle.aead_states.specs.DeclaredLengths.{declared_ad, declared_lengths}
-use Rattle.aead_states.specs.Runs.{HoldsData, HoldsPayload, IsClearParts}
+use Rattle.aead_states.specs.{declared.running.RunningAead.RunningAead, declared.state.AeadState.AeadState, DeclaredLengths.declared_ad, DeclaredLengths.declared_lengths, Runs.HoldsData, Runs.HoldsPayload, Runs.IsClearParts}
 
 -- no key, and nothing that runs
 pub record IsClearRunningAead (s : RunningAead) : Type 0 where

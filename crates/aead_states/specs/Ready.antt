@@ -1,9 +1,7 @@
 -- Keys and algorithms that an operation takes, as tests.
 use Rattle.std.specs.Prelude.{ℕ, Bool, ◌&&◌, List}
 use Rattle.alg_encoding.specs.Table.{permits_length}
-use Rattle.key_policy.specs.declared.algorithms.AeadAlgorithm.{AeadAlgorithm}
-use Rattle.key_policy.specs.Keys.{is_key}
-use Rattle.key_policy.specs.Names.{tag_lengths}
+use Rattle.key_policy.specs.{declared.algorithms.AeadAlgorithm.AeadAlgorithm, Keys.is_key, Names.tag_lengths}
 
 -- a key and an AEAD to compute with
 abbrev pub can_compute : AeadAlgorithm → List ℕ → Bool

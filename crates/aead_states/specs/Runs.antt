@@ -1,8 +1,7 @@
 -- What runs over the associated data and the text.
 use Rattle.std.specs.Prelude.{ℕ, Bool, List, MatchBool, if◌then◌else◌}
 use Rattle.crypto_specs.specs.Prelude.{aes_encrypt, ccm_text, gcm_text}
-use Rattle.aead_streams.specs.GcmStates.{HoldsGcmData, HoldsGcmText, IsClearGcm}
-use Rattle.aead_streams.specs.CcmStates.{HoldsCcmData, HoldsCcmText, IsClearCcm}
+use Rattle.aead_streams.specs.{GcmStates.HoldsGcmData, GcmStates.HoldsGcmText, GcmStates.IsClearGcm, CcmStates.HoldsCcmData, CcmStates.HoldsCcmText, CcmStates.IsClearCcm}
 use Rattle.store_model.specs.Prelude.{is_ccm, tag_bytes}
 use Rattle.aead_states.specs.declared.parts.Parts.{Parts}
 

@@ -1,12 +1,10 @@
 // Nonces.
-ghost use Rattle.std.specs.Prelude.{◌≡◌, ◌≤◌, ℕ, List, true, IfOk, OnOk, IsTrue, length, take};
-ghost use Rattle.std.specs.Result.{result_err};
+ghost use Rattle.std.specs.{Prelude.◌≡◌, Prelude.◌≤◌, Prelude.ℕ, Prelude.List, Prelude.true, Prelude.IfOk, Prelude.OnOk, Prelude.IsTrue, Prelude.length, Prelude.take, Result.result_err};
 ghost use Rattle.psa_status.specs.Rows.{first_row};
 ghost use Rattle.store_model.specs.Prelude.{buffer_after, given, reply_unless, total_limit, AeadGenerateNonce, AeadWork, aead_step, declared_payload, generate_nonce_rows, nonce_length, set_nonce_rows, takes_nonce, with_nonce};
 ghost use Rattle.store_model.specs.Aeads as model;
 ghost use Rattle.key_policy.specs.Names.{is_ccm, permits_nonce_by};
-ghost use Rattle.aead_states.specs.DeclaredLengths.{declared_lengths};
-ghost use Rattle.aead_states.specs.Holding.{HoldsAead};
+ghost use Rattle.aead_states.specs.{DeclaredLengths.declared_lengths, Holding.HoldsAead};
 
 use crate::declared::{declared_ad, declared_payload};
 use crate::running::RunningAead;

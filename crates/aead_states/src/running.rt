@@ -1,11 +1,9 @@
 // An operation that is active, or a wiped one.
-ghost use Rattle.std.specs.Prelude.{◌≡◌, ◌≤◌, ℕ, Bool, true, IsTrue, OnOk};
-ghost use Rattle.std.specs.Result.{result_err};
+ghost use Rattle.std.specs.{Prelude.◌≡◌, Prelude.◌≤◌, Prelude.ℕ, Prelude.Bool, Prelude.true, Prelude.IsTrue, Prelude.OnOk, Result.result_err};
 ghost use Rattle.psa_status.specs.Rows.{first_row};
 ghost use Rattle.crypto_specs.specs.Prelude.{IsKey};
 ghost use Rattle.store_model.specs.Prelude.{total_limit, AeadWork, aead_step, aead_work, set_lengths_rows, with_lengths};
-ghost use Rattle.service_calls.specs.Meanings.{model_aead_step};
-ghost use Rattle.service_calls.specs.Random.{takes_nonce_bytes};
+ghost use Rattle.service_calls.specs.{Meanings.model_aead_step, Random.takes_nonce_bytes};
 ghost use Rattle.key_policy.specs.Names.{IsTagLength, NamesAead};
 ghost use Rattle.aead_states.specs.Ready.{can_compute};
 

@@ -1,15 +1,12 @@
 // The state of an operation, and how its phase changes.
 ghost use Rattle.std.specs.Prelude.{◌≡◌, true, false};
 ghost use Rattle.crypto_specs.specs.Prelude.{IsKey};
-ghost use Rattle.service_calls.specs.Answers.{plain_reply};
-ghost use Rattle.service_calls.specs.Meanings.{model_aead_step};
-ghost use Rattle.service_calls.specs.Random.{takes_nonce_bytes};
+ghost use Rattle.service_calls.specs.{Answers.plain_reply, Meanings.model_aead_step, Random.takes_nonce_bytes};
 ghost use Rattle.store_model.specs.Prelude.{Inactive, Operation, is_inactive, AeadWork, aead_step, refusal};
 ghost use Rattle.alg_encoding.specs.declared.table.Class.TheVariants.{Aead};
 ghost use Rattle.key_policy.specs.Names.{IsOfClass};
 ghost use Rattle.multipart.specs.Turns.{is_active, loses_key};
-ghost use Rattle.aead_states.specs.Holding.{IsAeadOperation, IsClearAead};
-ghost use Rattle.aead_states.specs.Setups.{aead_setup};
+ghost use Rattle.aead_states.specs.{Holding.IsAeadOperation, Holding.IsClearAead, Setups.aead_setup};
 
 use crate::running::RunningAead;
 use key_policy::NamedAlgorithm;

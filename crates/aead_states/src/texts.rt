@@ -1,11 +1,8 @@
 // Associated data, text, and the end of an operation, which makes the tag or compares it.
-ghost use Rattle.std.specs.Prelude.{◌≡◌, ◌≤◌, ◌<◌, ◌+◌, ◌^◌, ◌++◌, [], ◌∷◌, Bool, not, true, false, IfOk, OnOk, bytes_eq, length, take};
-ghost use Rattle.std.specs.Result.{result_err};
-ghost use Rattle.psa_status.specs.declared.Status.TheVariants.{InvalidSignature};
-ghost use Rattle.psa_status.specs.Rows.{first_row};
+ghost use Rattle.std.specs.{Prelude.◌≡◌, Prelude.◌≤◌, Prelude.◌<◌, Prelude.◌+◌, Prelude.◌^◌, Prelude.◌++◌, Prelude.[], Prelude.◌∷◌, Prelude.Bool, Prelude.not, Prelude.true, Prelude.false, Prelude.IfOk, Prelude.OnOk, Prelude.bytes_eq, Prelude.length, Prelude.take, Result.result_err};
+ghost use Rattle.psa_status.specs.{declared.Status.TheVariants.InvalidSignature, Rows.first_row};
 ghost use Rattle.store_model.specs.Prelude.{tag_bytes, buffer_after, given, reply_unless, room_rows, total_limit, whole_rows, work_tag, AeadWork, aead_due, aead_fresh, aead_update_rows, is_past_payload, is_whole_ad, is_whole_payload, update_ad_rows, with_payload};
-ghost use Rattle.aead_states.specs.Holding.{HoldsAead};
-ghost use Rattle.aead_states.specs.Counted.{aead_text_rows, with_begun_text};
+ghost use Rattle.aead_states.specs.{Holding.HoldsAead, Counted.aead_text_rows, Counted.with_begun_text};
 
 use crate::declared::{is_past_ad, is_past_payload, is_whole_ad, is_whole_payload};
 use crate::lengths::is_past_limit;

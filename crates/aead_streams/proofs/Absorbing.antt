@@ -1,8 +1,7 @@
 -- The chain over a text in pieces.
 use Rattle.aead_streams.proofs.Common.{List, [], ap, append-nil, append_assoc, ap₂, arith, bit_xor, block_of_xor, chained, chained_from, drop, drop_all, drop_at, filled_block, filled_blocks, length, length-append, length-number_block, length-replicate, length-take, number_block, refl, replicate, sym, take, take-append-drop, take_all, take_at, xor_bytes, ℕ, ◌++◌, ◌-◌, ◌<◌, ◌∙◌, ◌∷◌, ◌≡◌, ◌≤◌}
 use Rattle.std.specs.Int.Bits.{xor_zero_l}
-use Rattle.aead_ccm.proofs.FilledBlocks.{filled_blocks-empty}
-use Rattle.aead_ccm.proofs.Chains.{front_chained, zero_block}
+use Rattle.aead_ccm.proofs.{FilledBlocks.filled_blocks-empty, Chains.front_chained, Chains.zero_block}
 
 -- nothing more is taken in
 pub chained_from-nothing : (e : List ℕ → List ℕ) (y : List ℕ) → chained_from e y (filled_blocks []) ≡ y

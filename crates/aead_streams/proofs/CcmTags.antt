@@ -1,7 +1,6 @@
 -- The chain over the associated data and the payload, and its tag.
 use Rattle.aead_streams.proofs.Common.{List, [], ap, append-nil, ap₂, arith, bit_xor, block_of_xor, ccm_counter_block, ccm_tag, chain_step, chained, chained_from, control_block, data_front, encoded_data, encoded_length, filled_blocks, formatted_blocks, inl, inr, length, number_block, refl, sym, take, xor_bytes, ℕ, ◌++◌, ◌<◌, ◌∙◌, ◌∷◌, ◌≡◌}
-use Rattle.std.proofs.lemmas.Bool.Decides.{eqb_tells}
-use Rattle.std.proofs.lemmas.List.Sums.{fold-append}
+use Rattle.std.proofs.{lemmas.Bool.Decides.eqb_tells, lemmas.List.Sums.fold-append}
 use Rattle.aead_ccm.proofs.Formats.{no_data, some_data}
 
 data_front-some : (a : ℕ) → 0 < a → data_front a ≡ encoded_length a

@@ -2,8 +2,7 @@
 use Rattle.aead_streams.proofs.Common.{List, Low32, aes_encrypt, ap, ap₂, arith, bit_xor, block_of_xor, block_product, gcm_tag, gcm_text, ghash_from, ghash_of, hash_subkey, in_turn, increased, initial_counter_block, length, length_block, number_block, numbers_of, refl, sym, take, text_xor, xor_bytes, ℕ, ◌++◌, ◌+◌, ◌∙◌, ◌≡◌}
 use Rattle.aead_gcm.proofs.Tags.{tag_is}
 use Rattle.aead_streams.proofs.{ModeStreams.aes_keeps_length, ModeStreams.gcm_is, StreamLaws.text_xor-append, StreamLaws.length-text_xor}
-use Rattle.aead_streams.specs.GcmStates.{HoldsGcmText}
-use Rattle.aead_streams.specs.declared.gcm_state.GcmState.{GcmState}
+use Rattle.aead_streams.specs.{GcmStates.HoldsGcmText, declared.gcm_state.GcmState.GcmState}
 
 -- the next piece goes on where the text before it ended
 pub further : (key nonce before piece out : List ℕ) (n : ℕ) → n ≡ length before → out ≡ text_xor (aes_encrypt key) Low32 (increased (initial_counter_block (aes_encrypt key) nonce) 1) n piece

@@ -1,13 +1,8 @@
 -- What a running CCM stands for. A call has the key, a tag of t bytes, the nonce, and p bytes of payload.
 use Rattle.std.specs.Prelude.{◌≡◌, ℕ, ◌≤◌, List, [], ◌∷◌, ◌++◌, length}
 use Rattle.crypto_specs.specs.Prelude.{aes_encrypt, number_block, chained, ccm_counter_block, control_block, encoded_data, filled_blocks}
-use Rattle.aead_ccm.specs.Chaining.{chained_from}
-use Rattle.aead_ccm.specs.Lengths.{IsNonceLength, IsPayloadLength}
-use Rattle.aead_streams.specs.declared.counter_width.CounterWidth.TheVariants.{Whole}
-use Rattle.aead_streams.specs.declared.key_stream.KeyStream.{KeyStream}
-use Rattle.aead_streams.specs.Streams.{IsAt, IsClearStream}
-use Rattle.aead_streams.specs.Chains.{chain_after, data_front, IsClearChain}
-use Rattle.aead_streams.specs.declared.ccm_state.CcmState.{CcmState}
+use Rattle.aead_ccm.specs.{Chaining.chained_from, Lengths.IsNonceLength, Lengths.IsPayloadLength}
+use Rattle.aead_streams.specs.{declared.counter_width.CounterWidth.TheVariants.Whole, declared.key_stream.KeyStream.KeyStream, Streams.IsAt, Streams.IsClearStream, Chains.chain_after, Chains.data_front, Chains.IsClearChain, declared.ccm_state.CcmState.CcmState}
 
 -- the buffers are zeros
 pub record IsClearCcm (s : CcmState) : Type 0 where

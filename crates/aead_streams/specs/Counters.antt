@@ -1,8 +1,7 @@
 -- The key stream of a block cipher e over counter blocks.
 use Rattle.std.specs.Prelude.{ℕ, suc, ◌+◌, ◌/◌, ◌%◌, ◌^◌, [], ◌∷◌, bit_xor, slice_index, List}
 use Rattle.crypto_specs.specs.Prelude.{number_block, increased}
-use Rattle.aead_streams.specs.declared.counter_width.CounterWidth.{CounterWidth}
-use Rattle.aead_streams.specs.declared.counter_width.CounterWidth.TheVariants.{Whole, Low32}
+use Rattle.aead_streams.specs.{declared.counter_width.CounterWidth.CounterWidth, declared.counter_width.CounterWidth.TheVariants.Whole, declared.counter_width.CounterWidth.TheVariants.Low32}
 
 -- counter block n, as a number, where block 0 is y
 abbrev pub counter_at : CounterWidth → ℕ → ℕ → ℕ

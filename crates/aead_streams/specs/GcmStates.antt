@@ -1,10 +1,7 @@
 -- What a running GCM (SP 800-38D) stands for.
 use Rattle.std.specs.Prelude.{◌≡◌, ℕ, List, length}
 use Rattle.crypto_specs.specs.Prelude.{aes_encrypt, ghash_from, initial_counter_block, hash_subkey, increased, numbers_of}
-use Rattle.aead_streams.specs.declared.counter_width.CounterWidth.TheVariants.{Low32}
-use Rattle.aead_streams.specs.Streams.{IsAt, IsClearStream}
-use Rattle.aead_streams.specs.TextHashes.{HasTaken, IsClearTextHash}
-use Rattle.aead_streams.specs.declared.gcm_state.GcmState.{GcmState}
+use Rattle.aead_streams.specs.{declared.counter_width.CounterWidth.TheVariants.Low32, Streams.IsAt, Streams.IsClearStream, TextHashes.HasTaken, TextHashes.IsClearTextHash, declared.gcm_state.GcmState.GcmState}
 
 -- n bytes of the text's key stream are used (7.1, step 3)
 abbrev pub IsAtByte : GcmState → List ℕ → List ℕ → ℕ → Type 0

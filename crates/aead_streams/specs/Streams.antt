@@ -1,8 +1,6 @@
 -- What a KeyStream stands for.
 use Rattle.std.specs.Prelude.{◌≡◌, ℕ, ◌+◌, ◌-◌, ◌*◌, ◌<◌, ◌≤◌, List, replicate}
-use Rattle.aead_streams.specs.declared.counter_width.CounterWidth.{CounterWidth}
-use Rattle.aead_streams.specs.declared.key_stream.KeyStream.{KeyStream}
-use Rattle.aead_streams.specs.Counters.{counter_at, stream_block}
+use Rattle.aead_streams.specs.{declared.counter_width.CounterWidth.CounterWidth, declared.key_stream.KeyStream.KeyStream, Counters.counter_at, Counters.stream_block}
 
 -- n bytes of the stream of e over the counter blocks from `start` on are used, for which so many blocks were made
 pub record IsAt (s : KeyStream) (e : List ℕ → List ℕ) (width : CounterWidth) (start n : ℕ) : Type 0 where

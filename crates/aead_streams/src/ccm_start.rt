@@ -1,8 +1,7 @@
 // The lengths that stand before the associated data and the payload.
 ghost use Rattle.std.specs.Prelude.{◌≡◌, ◌<◌, ◌^◌, ℕ, List, [], ◌∷◌, ◌++◌, length};
 ghost use Rattle.crypto_specs.specs.Prelude.{aes_encrypt, IsKey, chained, control_block, filled_blocks};
-ghost use Rattle.aead_ccm.specs.Chaining.{chained_from};
-ghost use Rattle.aead_ccm.specs.Lengths.{IsNonceLength, IsTagLength};
+ghost use Rattle.aead_ccm.specs.{Chaining.chained_from, Lengths.IsNonceLength, Lengths.IsTagLength};
 ghost use Rattle.aead_streams.specs.Chains.{chain_after, data_front};
 
 use crate::ccm_chain::Chain;

@@ -1,7 +1,6 @@
 ghost use Rattle.std.specs.Prelude.{◌≡◌, ℕ, ◌+◌, ◌<◌, ◌≤◌, List, ◌++◌, length, take, drop, replicate};
 ghost use Rattle.crypto_specs.specs.Prelude.{aes_encrypt, IsKey, number_block};
-ghost use Rattle.aead_streams.specs.Counters.{counter_at, text_xor};
-ghost use Rattle.aead_streams.specs.Streams.{IsAt, IsClearStream};
+ghost use Rattle.aead_streams.specs.{Counters.counter_at, Counters.text_xor, Streams.IsAt, Streams.IsClearStream};
 
 use crate::counter_width::CounterWidth;
 use aes_core::AesKey;

@@ -1,8 +1,6 @@
 -- Round keys that InvMixColumns is taken of.
 use Rattle.aes_core.proofs.Common.{IsInvScheduleOf, List, [], add_round_key, ap, ap₂, arith, bit_xor, byte_at, word_bytes, entry, gf_mul, gf_mul-xor, inl, inr, inv_mix_columns, inv_mixed_word, inv_rounds, inv_sbox, inv_sbox-byte, inv_sbox_of_sbox, inv_shift_rows, inv_sub_bytes, mixed, mixed_column, refl, sbox, slice_index, state_of, sym, xor_four, ℕ, ◌*◌, ◌++◌, ◌+◌, ◌-◌, ◌<◌, ◌∙◌, ◌∷◌, ◌≡◌, ◌≤◌, ◌⊎◌}
-use Rattle.aes_core.proofs.WordBytes.{row_0, row_1, row_2, row_3}
-use Rattle.aes_core.proofs.ColumnSums.{list_of}
-use Rattle.aes_core.proofs.RoundKeys.{inv_rounds_next}
+use Rattle.aes_core.proofs.{WordBytes.row_0, WordBytes.row_1, WordBytes.row_2, WordBytes.row_3, ColumnSums.list_of, RoundKeys.inv_rounds_next}
 
 -- ---- a product with the matrix is linear
 

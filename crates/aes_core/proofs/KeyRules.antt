@@ -1,7 +1,6 @@
 -- What the fields of a key say of the ciphers under it.
 use Rattle.aes_core.proofs.Common.{IsKey, IsReadyOrWiped, IsScheduleOf, List, aes_decrypt, aes_encrypt, ap, arith, word_bytes, cipher, inl, inr, inv_cipher, key_of, key_schedule, length, sym, take, ℕ, ◌*◌, ◌+◌, ◌-◌, ◌∙◌, ◌≡◌}
-use Rattle.aes_core.proofs.WordBytes.{bytes_of-take}
-use Rattle.aes_core.proofs.RoundKeys.{AgreeBelow, agree_taken, cipher_same, inv_cipher_same}
+use Rattle.aes_core.proofs.{WordBytes.bytes_of-take, RoundKeys.AgreeBelow, RoundKeys.agree_taken, RoundKeys.cipher_same, RoundKeys.inv_cipher_same}
 
 -- what the fields of a key that is not wiped stand for
 pub ready : (k s v : List ℕ) (nr : ℕ) → IsReadyOrWiped nr s v → key_of nr s ≡ k → IsKey k → IsScheduleOf nr s v k

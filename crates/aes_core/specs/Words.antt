@@ -1,6 +1,5 @@
 -- Words of 32 bits, four bytes each, first byte highest. The columns of a state are four such words.
-use Rattle.std.specs.Prelude.{ℕ, List, [], ◌∷◌, slice_index}
-use Rattle.std.specs.Int.{w32, byte_at, from_be_bytes}
+use Rattle.std.specs.{Prelude.ℕ, Prelude.List, Prelude.[], Prelude.◌∷◌, Prelude.slice_index, Int.w32, Int.byte_at, Int.from_be_bytes}
 use Rattle.crypto_specs.specs.Prelude.{gf_mul, mixed}
 
 -- the bytes of words

@@ -1,7 +1,6 @@
 // A state as its four columns, each a word whose highest byte is row 0 (FIPS 197 section 3.5).
 
-ghost use Rattle.std.specs.Prelude.{◌≡◌, ◌<◌, [], ◌∷◌};
-ghost use Rattle.std.specs.Int.{byte_at};
+ghost use Rattle.std.specs.{Prelude.◌≡◌, Prelude.◌<◌, Prelude.[], Prelude.◌∷◌, Int.byte_at};
 ghost use Rattle.crypto_specs.specs.Prelude.{number_block, sbox, sub_bytes, shift_rows, mix_columns, add_round_key};
 ghost use Rattle.aes_core.specs.Words.{word_bytes};
 

@@ -1,7 +1,6 @@
 // The steps of the equivalent inverse cipher on the columns of a state (FIPS 197 section 5.3.5).
 
-ghost use Rattle.std.specs.Prelude.{◌≡◌, [], ◌∷◌};
-ghost use Rattle.std.specs.Int.{byte_at};
+ghost use Rattle.std.specs.{Prelude.◌≡◌, Prelude.[], Prelude.◌∷◌, Int.byte_at};
 ghost use Rattle.crypto_specs.specs.Prelude.{inv_sbox, inv_sub_bytes, inv_shift_rows, inv_mix_columns};
 ghost use Rattle.aes_core.specs.Words.{word_bytes, inv_mixed_word};
 

@@ -1,7 +1,6 @@
 // Inverse rounds by tables: InvSubBytes and InvMixColumns at once, as in `mixed_tables`.
 
-ghost use Rattle.std.specs.Prelude.{◌≡◌, [], ◌∷◌};
-ghost use Rattle.std.specs.Int.{byte_at};
+ghost use Rattle.std.specs.{Prelude.◌≡◌, Prelude.[], Prelude.◌∷◌, Int.byte_at};
 ghost use Rattle.crypto_specs.specs.Prelude.{inv_sbox};
 ghost use Rattle.aes_core.specs.Words.{word_bytes, mixed_column};
 

@@ -5,8 +5,7 @@
 //
 // They stand in one array, so that one register holds where all of them are.
 
-ghost use Rattle.std.specs.Prelude.{◌≡◌, [], ◌∷◌};
-ghost use Rattle.std.specs.Int.{byte_at};
+ghost use Rattle.std.specs.{Prelude.◌≡◌, Prelude.[], Prelude.◌∷◌, Int.byte_at};
 ghost use Rattle.crypto_specs.specs.Prelude.{sbox};
 ghost use Rattle.aes_core.specs.Words.{word_bytes, mixed_column};
 

@@ -2,8 +2,7 @@
 
 ghost use Rattle.std.specs.Prelude.{◌≡◌, ◌-◌, ◌%◌, ◌<◌, ◌≤◌, ℕ, List};
 ghost use Rattle.crypto_specs.specs.Prelude.{number_block, cipher, rounds, inv_cipher, inv_rounds};
-ghost use Rattle.aes_core.specs.Words.{word_bytes};
-ghost use Rattle.aes_core.specs.KeyFields.{IsInvScheduleOf};
+ghost use Rattle.aes_core.specs.{Words.word_bytes, KeyFields.IsInvScheduleOf};
 
 use crate::columns::{add_round_key, block_of, columns_of, last_columns, mixed_columns};
 use crate::inv_columns::{inv_last_columns, inv_mixed_columns};

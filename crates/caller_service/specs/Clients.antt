@@ -1,13 +1,10 @@
 -- What is known of a call that a client makes.
 use Rattle.std.specs.Prelude.{◌≡◌, ℕ, List}
-use Rattle.service_calls.specs.declared.call.Call.{Call}
-use Rattle.service_calls.specs.declared.output.Output.{Output}
+use Rattle.service_calls.specs.{declared.call.Call.Call, declared.output.Output.Output}
 use Rattle.disk_face.specs.declared.Disk as Disk
 use Rattle.driver_dispatch.specs.declared.devices.Devices as Devices
 use Rattle.admission.specs.declared.rules.Admission as Admission
-use Rattle.caller_service.specs.declared.client.Client.{Client}
-use Rattle.caller_service.specs.declared.replies.Reply.{Reply}
-use Rattle.caller_service.specs.Replies.{IsReply}
+use Rattle.caller_service.specs.{declared.client.Client.Client, declared.replies.Reply.Reply, Replies.IsReply}
 
 module _ {D A C G R : Type 0} {d : Disk.Ghosts D} {a : Devices.Ghosts A} {c : Admission.Ghosts C} where
   -- the client's caller made this call of its service, and has this reply

@@ -5,8 +5,7 @@ use Rattle.turn_history.specs.Prelude.{entries_of, calls_by, StartsWith}
 use Rattle.store_model.specs.Prelude.{Service, Entry, replay, last_counts}
 use Rattle.store_core.specs.Prelude.{FreedCellsAreZeros, HasKeyOrIsClosed, HasKeyOrZeros, KeepsKeys, course_of, durable_keys, opening_of}
 use Rattle.locked_store.specs.Prelude.{caller_of, IsLegal, IsStartOf, World}
-use Rattle.callers.specs.Retired.{IsRetired, MakesNoCall}
-use Rattle.callers.specs.declared.caller.Caller.{Caller}
+use Rattle.callers.specs.{Retired.IsRetired, Retired.MakesNoCall, declared.caller.Caller.Caller}
 
 -- What is known of a history since an opening, and of the disk and the devices after it. Its calls are by sixteen callers. Each of
 -- its marks stands where it may and has its fault; the last entry's counts are those of disk and devices. The disk tells its

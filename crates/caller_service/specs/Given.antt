@@ -1,7 +1,6 @@
 -- What a reply reads of a successful answer, by its type. Each is total, and of another kind of answer it is 0.
 use Rattle.std.specs.Prelude.{ℕ}
-use Rattle.key_attributes.specs.declared.KeyId.{KeyId}
-use Rattle.key_attributes.specs.declared.Attributes.{Attributes}
+use Rattle.key_attributes.specs.{declared.KeyId.KeyId, declared.Attributes.Attributes}
 use Rattle.slot_table.specs.Slots.{no_attributes}
 use Rattle.service_calls.specs.declared.output.Output.{Output}
 use Rattle.service_calls.specs.declared.output.Output.TheVariants as output

@@ -1,21 +1,14 @@
 -- What is known of a call that is made by its name.
-use Rattle.std.specs.Prelude.{◌≡◌, ◌≤◌, ℕ, List, IfSome, IfNone, length, Result}
-use Rattle.std.specs.Result.{result_map_both}
+use Rattle.std.specs.{Prelude.◌≡◌, Prelude.◌≤◌, Prelude.ℕ, Prelude.List, Prelude.IfSome, Prelude.IfNone, Prelude.length, Prelude.Result, Result.result_map_both}
 use Rattle.psa_status.specs.declared.Status.{Status}
-use Rattle.service_calls.specs.declared.call.Call.{Call}
-use Rattle.service_calls.specs.declared.call.Call.TheVariants.{OnHandle}
+use Rattle.service_calls.specs.{declared.call.Call.Call, declared.call.Call.TheVariants.OnHandle, declared.steps.Step.Step, declared.output.Output.Output, Meanings.model_request}
 use Rattle.service_calls.specs.declared.handle_calls.HandleCall.TheVariants as handle_call
-use Rattle.service_calls.specs.declared.steps.Step.{Step}
-use Rattle.service_calls.specs.declared.output.Output.{Output}
-use Rattle.service_calls.specs.Meanings.{model_request}
-use Rattle.callers.specs.Prelude.{HasCounted, IsAnswered, IsOverBudget, IsReady}
+use Rattle.callers.specs.{Prelude.HasCounted, Prelude.IsAnswered, Prelude.IsOverBudget, Prelude.IsReady, declared.caller.Caller.Caller}
 use Rattle.disk_face.specs.declared.Disk as Disk
 use Rattle.driver_dispatch.specs.declared.devices.Devices as Devices
 use Rattle.admission.specs.declared.rules.Admission as Admission
 use Rattle.locked_store.specs.Prelude.{world}
-use Rattle.callers.specs.declared.caller.Caller.{Caller}
-use Rattle.caller_service.specs.declared.replies.Reply.{Reply}
-use Rattle.caller_service.specs.declared.service.Service.{Service}
+use Rattle.caller_service.specs.{declared.replies.Reply.Reply, declared.service.Service.Service}
 
 -- a step of the operation at a handle
 abbrev pub steps_on : (op : ℕ) → Step → Call

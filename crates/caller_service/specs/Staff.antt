@@ -1,8 +1,7 @@
 -- The callers of a service as it is opened.
 use Rattle.std.specs.Prelude.{◌≡◌, ℕ, ◌+◌, ◌<◌, List, [], length, get_or}
-use Rattle.callers.specs.Ready.{IsReady}
+use Rattle.callers.specs.{Ready.IsReady, declared.caller.Caller.Caller}
 use Rattle.locked_store.specs.Prelude.{World}
-use Rattle.callers.specs.declared.caller.Caller.{Caller}
 
 module _ {D A C : Type 0} (w : World D A C) where
   -- the caller of this number, which has seen and made no call

@@ -28,3 +28,5 @@ mod service;
 pub use client::Client;
 pub use replies::Reply;
 pub use service::{Closed, Service, Staffed};
+pub use store_core::{StoreFault, Unopened};
+pub use store_model::Limits;

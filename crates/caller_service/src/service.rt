@@ -21,7 +21,8 @@ use service_calls::{Call, Output};
 use std::alloc::Global;
 use std::snapshot::Snapshot;
 use std::sync::Wait;
-use store_core::Unopened;
+use store_core::{StoreFault, Unopened};
+use store_model::Limits;
 use turn_history::Pass;
 
 /// How many callers a service has.
@@ -94,12 +95,13 @@ impl<D: Disk, A: Devices, C: Admission, G: Gate> Service<D, A, C, G> {
     /// Opens the store of a disk, or makes one on a disk of length 0, for sixteen callers whose random words have this seed
     /// and whose calls may each count up to `worn`. Where it isn't opened the disk and the devices come back: `Memory`
     /// where there is no room, `Disk` only where the disk's faults rose, `NotAStore` and `DamagedCell` for what the disk
-    /// has, and then nothing is written to it.
+    /// has, and then nothing is written to it; `RangeFull` where the limits are by range and a range has more keys.
     pub fn open(
         alloc: Global,
         disk: D,
         devices: A,
         rules: C,
+        limits: Limits,
         seed: &[u8; 32],
         worn: u64,
         gate: G,
@@ -116,7 +118,8 @@ impl<D: Disk, A: Devices, C: Admission, G: Gate> Service<D, A, C, G> {
         ensures devices { IfOk result (λ made. (world made.0.shared).opened.devices.value ≡ devices) }
         ensures seed { IfOk result (λ made. (world made.0.shared).opened.seed.value ≡ seed.now) }
         ensures rules { IfOk result (λ made. (world made.0.shared).opened.rules.value ≡ rules) }
-        ensures refused { IfErr result (λ unopened. IsNotOpened D.Disk disk unopened.disk unopened.fault) }
+        ensures limits { IfOk result (λ made. (world made.0.shared).opened.limits.value ≡ limits) }
+        ensures refused { IfErr result (λ unopened. IsNotOpened D.Disk limits disk unopened.disk unopened.fault) }
         ensures returned { IfErr result (λ unopened. unopened.devices ≡ devices) }
     {
         let (allotments, mut callers) = match take_memory(alloc) {
@@ -125,11 +128,11 @@ impl<D: Disk, A: Devices, C: Admission, G: Gate> Service<D, A, C, G> {
                 return Err(Unopened {
                     disk,
                     devices,
-                    fault: OpenFault::Memory,
+                    fault: StoreFault::File(OpenFault::Memory),
                 });
             }
         };
-        match SharedStore::open(alloc, disk, devices, rules, seed) {
+        match SharedStore::open(alloc, disk, devices, rules, limits, seed) {
             Ok((shared, passes)) => {
                 seat(&shared, seed, passes, allotments, &mut callers);
                 Ok((Service { shared, worn, gate }, callers))

@@ -4,8 +4,7 @@ use Rattle.psa_status.specs.declared.Status.TheVariants as status
 use Rattle.store_model.specs.Prelude.{MayBeMarked}
 use Rattle.service_calls.specs.declared.output.Output.TheVariants as output
 use Rattle.callers.proofs.{HandleLists.busy_put, HandleLists.cell_at, HandleLists.few, HandleLists.once, HandleLists.tally-cons, Failing.answers_plain, Failing.set_up_plainly, Journeys.called, Looking.AreSpares, Looking.same_spares, Marked.plain_may, Marked.read_marked}
-use Rattle.callers.proofs.{Readying.applied_answered, Readying.applied_there, Readying.outcome_is, Readying.own_there, Readying.ready, Supposed.by_after, Supposed.by_none, Supposed.quiet_leaves, Supposed.standing}
-use Rattle.callers.proofs.SettingUp.{begun_lent, counts, draws_none, quiet, reads, set_up_lent, set_up_refused, set_up_twice, still}
+use Rattle.callers.proofs.{Readying.applied_answered, Readying.applied_there, Readying.outcome_is, Readying.own_there, Readying.ready, Supposed.by_after, Supposed.by_none, Supposed.quiet_leaves, Supposed.standing, SettingUp.begun_lent, SettingUp.counts, SettingUp.draws_none, SettingUp.quiet, SettingUp.reads, SettingUp.set_up_lent, SettingUp.set_up_refused, SettingUp.set_up_twice, SettingUp.still}
 
 pub waits_by : (operations : List HandleOperation) (handle : ℕ) (operation : HandleOperation) (more : ℕ) → handle ≤ 4 → 1 ≤ handle → length operations ≡ 4 → operation_at operations handle ≡ Inactive → once (not (is_inactive operation)) ≤ more →
     busy (with_operation_at operations handle operation) ≤ busy operations + more

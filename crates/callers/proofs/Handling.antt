@@ -1,8 +1,7 @@
 -- A caller after a call on a handle: a ranked turn, the handle's operation changed, and its lease given back where that is over.
 use Rattle.callers.proofs.Common.{Abort, After, All, All-push, AnswersReply, AreOperations, ArePairs, Bool, Caller, Done, Entry, FaultMark, HandleCall, HandleOperation, Handles, Held, IfSome, Inactive, IsAnswered, IsAsked, IsAt, IsBack, IsCalled, IsChanged, IsClear, IsEntered, IsRanked, IsReady, KeyCreation, KnowsAlive, KnowsBefore, KnowsTold, Legal, List, MayGoBack, None, Ok, OnHandle, Option, Output, Pairs, Plain, RandomStream, Reading, Request, Result, SameButPass, Served, Service, Some, Status, TellsFailure, View, World, [], ap, applied, arith, buffer_after, cond, count_by, done, drawn_from, draws_none, ends, entries_of, false, is_inactive, known_more, known_told, lease_pair, leases_of, length, length-append, model_step, names, next_bytes, not, operation_at, operation_of, outcome_of, pairs_of, refl, rekeyed, replay, serve, stepped_by, steps_are, subst, sym, true, vec_capacity, with_operation_at, without_pair, ℕ, ◌*◌, ◌++◌, ◌+◌, ◌-◌, ◌<◌, ◌==◌, ◌∙◌, ◌∷◌, ◌≡◌, ◌≤◌}
 use Rattle.service_calls.specs.declared.steps.Step.{Step}
-use Rattle.callers.proofs.{HandleLists.busy_put, HandleLists.few, HandleLists.named_alike, HandleLists.once, HandleLists.tally-cons, HandleLists.without, Journeys.called_then, Journeys.called}
-use Rattle.callers.proofs.{Readying.applied_answered, Readying.applied_there, Readying.ready, Readying.known, Readying.outcome_is, Supposed.at_store, Supposed.by_none}
+use Rattle.callers.proofs.{HandleLists.busy_put, HandleLists.few, HandleLists.named_alike, HandleLists.once, HandleLists.tally-cons, HandleLists.without, Journeys.called_then, Journeys.called, Readying.applied_answered, Readying.applied_there, Readying.ready, Readying.known, Readying.outcome_is, Supposed.at_store, Supposed.by_none}
 
 pub names_few : (i k : ℕ) (own : Pairs) → names i k own ≤ length own
 names_few i k [] = omega arith

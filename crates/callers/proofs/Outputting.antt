@@ -3,11 +3,9 @@ use Rattle.callers.proofs.Common.{Active, All, AreOperations, Attributes, Bool, 
 use Rattle.service_calls.specs.declared.output.Output.TheVariants as output
 use Rattle.store_model.specs.Prelude.{MayBeMarked, given as given_bytes}
 use Rattle.derivation_states.specs.KeySteps as alone
-use Rattle.callers.proofs.{Asking.leased_key, Asking.unleased_key, Beginning.at_handle, HandleLists.busy_put, HandleLists.cell_at, HandleLists.named_alike, HandleLists.names_is, HandleLists.names_lease, HandleLists.once, HandleLists.tally-cons}
+use Rattle.callers.proofs.{Asking.leased_key, Asking.unleased_key, Beginning.at_handle, HandleLists.busy_put, HandleLists.cell_at, HandleLists.named_alike, HandleLists.names_is, HandleLists.names_lease, HandleLists.once, HandleLists.tally-cons, Supposed.DecidesAt, Supposed.IsSupposed, Supposed.by_before, Supposed.supposed}
 use Rattle.callers.proofs.Deriving.{IsLeaseOf, IsOneFor, LivesAs, TellsOf, lease_lives, made_tells, one_for, unmade_tells, derived_leaves, derived_replies, made_owns, underived_key, underived_marked}
-use Rattle.callers.proofs.{Handling.handled_answered, Handling.handled_ready, Inputting.derives_busy, Inputting.refused_drawn, Made.made_gives, Owned.set_operation, Owned.set_own, Owned.sound_replay}
-use Rattle.callers.proofs.{Readying.answered, Readying.known, Readying.outcome_is, Readying.own_there, Readying.ready, SettingUp.undrawn_own, Storing.decided_known, Rekeying.part_rekeyed, Rekeying.part_replies}
-use Rattle.callers.proofs.Supposed.{DecidesAt, IsSupposed, by_before, supposed}
+use Rattle.callers.proofs.{Handling.handled_answered, Handling.handled_ready, Inputting.derives_busy, Inputting.refused_drawn, Made.made_gives, Owned.set_operation, Owned.set_own, Owned.sound_replay, Readying.answered, Readying.known, Readying.outcome_is, Readying.own_there, Readying.ready, SettingUp.undrawn_own, Storing.decided_known, Rekeying.part_rekeyed, Rekeying.part_replies}
 
 -- the lease of a handle is of its operation's key
 lease_of : (cell : OperationHandle) (operation : HandleOperation) → IsOperation cell operation → (is_active operation ≡ false → cell.lease ≡ None) → IsLeaseOf cell.lease (key_of_operation operation)

@@ -3,8 +3,7 @@ use Rattle.callers.proofs.Common.{Active, AeadSetup, After, Bool, CipherSetup, D
 use Rattle.std.specs.FinMap as map
 use Rattle.psa_status.specs.declared.Status.TheVariants as status
 use Rattle.service_calls.specs.declared.handle_calls.KeylessSetup.TheVariants as keyless
-use Rattle.service_calls.specs.declared.handle_calls.Purpose.{Purpose}
-use Rattle.service_calls.specs.declared.handle_calls.Purpose.TheVariants.{SignMac, VerifyMac, EncryptCipher, DecryptCipher, EncryptAead, DecryptAead}
+use Rattle.service_calls.specs.{declared.handle_calls.Purpose.Purpose, declared.handle_calls.Purpose.TheVariants.SignMac, declared.handle_calls.Purpose.TheVariants.VerifyMac, declared.handle_calls.Purpose.TheVariants.EncryptCipher, declared.handle_calls.Purpose.TheVariants.DecryptCipher, declared.handle_calls.Purpose.TheVariants.EncryptAead, declared.handle_calls.Purpose.TheVariants.DecryptAead}
 use Rattle.store_model.specs.KeyUse as held
 use Rattle.callers.proofs.HandleLists.{once}
 

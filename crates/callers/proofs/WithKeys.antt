@@ -1,5 +1,6 @@
 -- What the one-thread service makes of a call in one part with a key.
 use Rattle.callers.proofs.Common.{Call, Err, FaultMark, HandleOperation, IsLent, IsOwnPart, IsRefused, IsSound, KeyUse, KeyedCall, List, OnStore, Outcome, Plain, Random, Reading, Service, Some, Status, Store, [], ap, arith, bytes_of, computed_by, computed_unless, counted, false, id_read, is_of_element, is_opaque_key, keyed, mark_of, may_change_keys, model_keyed_call, next_random, own_of, refused, serve, step, subst, sym, true, use_refusal, wanted_by, with_computed, words_used, ℕ, ◌∙◌, ◌≡◌, ◌≤◌, service_of, start_of}
+use Rattle.store_model.specs.declared.limits.Limits.TheVariants.{Whole}
 use Rattle.std.specs.FinMap as map
 use Rattle.psa_status.specs.declared.Status.TheVariants as status
 use Rattle.store_model.specs.KeyUse as held
@@ -12,7 +13,7 @@ IsLocal asked id store = is_of_element asked ≡ true → is_opaque_key (map.get
 
 -- such a call changes no key
 pub quiet_call : (asked : KeyedCall) (id room : ℕ) → may_change_keys (OnStore (model_keyed_call asked id room)) ≡ false
-quiet_call asked id room = (reads (service_of (start_of (record { seed = []; labels = []; locations = [] }) [])) 1 asked id room).1
+quiet_call asked id room = (reads (service_of (start_of (record { seed = []; labels = []; locations = []; limits = Whole }) [])) 1 asked id room).1
 
 -- and reads that key
 pub reads_call : (service : Service) (caller : ℕ) (asked : KeyedCall) (id room : ℕ) → id_read service caller (OnStore (model_keyed_call asked id room)) ≡ Some id

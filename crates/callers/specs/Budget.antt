@@ -1,11 +1,7 @@
 -- What calls count of a caller's budget.
-use Rattle.std.specs.Prelude.{◌+◌, ℕ, Bool, true, false, cond, List, Result}
-use Rattle.std.specs.Result.{is_ok}
+use Rattle.std.specs.{Prelude.◌+◌, Prelude.ℕ, Prelude.Bool, Prelude.true, Prelude.false, Prelude.cond, Prelude.List, Prelude.Result, Result.is_ok}
 use Rattle.psa_status.specs.declared.Status.{Status}
-use Rattle.service_calls.specs.declared.call.Call.{Call}
-use Rattle.service_calls.specs.declared.call.Call.TheVariants.{OnHandle}
-use Rattle.service_calls.specs.declared.handle_calls.HandleCall.TheVariants.{Abort, Setup}
-use Rattle.service_calls.specs.declared.output.Output.{Output}
+use Rattle.service_calls.specs.{declared.call.Call.Call, declared.call.Call.TheVariants.OnHandle, declared.handle_calls.HandleCall.TheVariants.Abort, declared.handle_calls.HandleCall.TheVariants.Setup, declared.output.Output.Output}
 use Rattle.store_model.specs.Prelude.{HandleOperation, is_inactive}
 use Rattle.callers.specs.Handles.{operation_at}
 

@@ -1,11 +1,8 @@
 -- What a caller's call adds to what the caller has seen, and what it answers.
 use Rattle.std.specs.Prelude.{◌≡◌, ◌⊎◌, ℕ, ◌+◌, ◌-◌, true, false, List, [], ◌∷◌, ◌++◌, length, is_some, Result}
-use Rattle.psa_status.specs.declared.Status.{Status}
-use Rattle.psa_status.specs.declared.Status.TheVariants.{InvalidSignature}
-use Rattle.turn_history.specs.declared.pass.View.{View}
-use Rattle.turn_history.specs.Prelude.{entries_of, StartsWith}
-use Rattle.service_calls.specs.declared.output.Output.{Output}
-use Rattle.service_calls.specs.Answered.{AnswersReply}
+use Rattle.psa_status.specs.{declared.Status.Status, declared.Status.TheVariants.InvalidSignature}
+use Rattle.turn_history.specs.{declared.pass.View.View, Prelude.entries_of, Prelude.StartsWith}
+use Rattle.service_calls.specs.{declared.output.Output.Output, Answered.AnswersReply}
 use Rattle.store_model.specs.Call.{CipherDecrypt, CipherEncrypt, MacCompute, MacVerify}
 use Rattle.store_model.specs.Prelude.{Reply, buffer_after, done, given, refusal, tag_bytes, FaultMark, Plain, Service, IsSoundStore, MayBeMarked, asks_device, counted, OnStore, Request, Entry, outcome_of, replay}
 use Rattle.store_core.specs.declared.store.Opened.{Opened}

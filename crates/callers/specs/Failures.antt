@@ -1,7 +1,6 @@
 -- What calls say of devices that failed.
 use Rattle.std.specs.Prelude.{Option, Some, None, Result, Ok, Err}
-use Rattle.psa_status.specs.declared.Status.{Status}
-use Rattle.psa_status.specs.declared.Status.TheVariants.{StorageFailure, HardwareFailure, DataCorrupt}
+use Rattle.psa_status.specs.{declared.Status.Status, declared.Status.TheVariants.StorageFailure, declared.Status.TheVariants.HardwareFailure, declared.Status.TheVariants.DataCorrupt}
 use Rattle.service_calls.specs.declared.output.Output.{Output}
 use Rattle.store_model.specs.Prelude.{FaultMark, done, marked_reply}
 

@@ -4,11 +4,9 @@ use Rattle.psa_status.specs.Rows.{first_row}
 use Rattle.random_streams.specs.RandomWords.{RandomStream, next_bytes}
 use Rattle.secret_bytes.specs.Buffer.{bytes_of}
 use Rattle.slot_table.specs.Lent.{Reading}
-use Rattle.service_calls.specs.Meanings.{model_step}
-use Rattle.service_calls.specs.declared.steps.Step.{Step}
+use Rattle.service_calls.specs.{Meanings.model_step, declared.steps.Step.Step}
 use Rattle.store_model.specs.Prelude.{DerivationWork, key_step_rows, with_key, without, Deriving, HandleOperation, Held, KeyCreation, derivation_part, is_alive, key_of_operation, next_random, operation_of, part_of, Active, After, InError, Service}
-use Rattle.operation_handles.specs.Steps.{stepped_by}
-use Rattle.operation_handles.specs.declared.handle.OperationHandle.{OperationHandle}
+use Rattle.operation_handles.specs.{Steps.stepped_by, declared.handle.OperationHandle.OperationHandle}
 use Rattle.callers.specs.Handles.{AreOperations, IsChanged, operation_at}
 
 -- what a step makes of a handle's operation, by whether its key is there

@@ -4,8 +4,7 @@ use Rattle.slot_table.specs.Lent.{Reading}
 use Rattle.key_slots.specs.Holdings.{Pairs, names}
 use Rattle.multipart.specs.Turns.{is_active}
 use Rattle.store_model.specs.Prelude.{Inactive, is_inactive, HandleOperation}
-use Rattle.operation_handles.specs.Handles.{IsOperation}
-use Rattle.operation_handles.specs.declared.handle.OperationHandle.{OperationHandle}
+use Rattle.operation_handles.specs.{Handles.IsOperation, declared.handle.OperationHandle.OperationHandle}
 use Rattle.locked_store.specs.Prelude.{lease_pair}
 
 -- each of the four handles stands for its operation, and one whose operation isn't active holds no lease

@@ -7,15 +7,10 @@ use Rattle.slot_table.specs.Lent.{Reading}
 use Rattle.service_calls.specs.declared.store_calls.KeyedCall.{KeyedCall}
 use Rattle.single_part.specs.Elements.{takes_vector}
 use Rattle.locked_store.specs.Prelude.{IsLater, World, lease_pair, without_pair}
-use Rattle.store_model.specs.Creation.{stated_bytes}
-use Rattle.store_model.specs.Prelude.{FaultMark, Entry, Request}
+use Rattle.store_model.specs.{Creation.stated_bytes, Prelude.FaultMark, Prelude.Entry, Prelude.Request}
 use Rattle.store_core.specs.declared.store.Opened.{Opened}
 use Rattle.turn_history.specs.declared.pass.View.{View}
-use Rattle.callers.specs.Called.{IsCalled, KnowsBefore}
-use Rattle.callers.specs.HandleCalls.{IsAsked}
-use Rattle.callers.specs.Handles.{ArePairs, operation_at}
-use Rattle.callers.specs.Ready.{IsReady}
-use Rattle.callers.specs.declared.caller.Caller.{Caller}
+use Rattle.callers.specs.{Called.IsCalled, Called.KnowsBefore, HandleCalls.IsAsked, Handles.ArePairs, Handles.operation_at, Ready.IsReady, declared.caller.Caller.Caller}
 
 -- the random bytes that a call has drawn which the secure element computed, or failed to
 abbrev pub drawn_by : KeyedCall → (computed : Bool) → ℕ

@@ -4,9 +4,7 @@ use Rattle.secret_bytes.specs.Buffer.{IsClear}
 use Rattle.turn_history.specs.Prelude.{entries_of, TURNS}
 use Rattle.store_model.specs.Prelude.{Inactive, HandleOperation, Own, Service, own_of, IsSoundStore, replay}
 use Rattle.locked_store.specs.Prelude.{IsAt, World, IsStartOf, ToldBy}
-use Rattle.callers.specs.Called.{Legal}
-use Rattle.callers.specs.Handles.{AreOperations, ArePairs, busy, leases_of, operation_at}
-use Rattle.callers.specs.declared.caller.Caller.{Caller}
+use Rattle.callers.specs.{Called.Legal, Handles.AreOperations, Handles.ArePairs, Handles.busy, Handles.leases_of, Handles.operation_at, declared.caller.Caller.Caller}
 
 -- the model's own part of a caller has these operations at its handles, from 1 on, and has drawn so many random words
 pub record IsOwnPart (operations : List HandleOperation) (place : ℕ) (own : Own) : Type 0 where

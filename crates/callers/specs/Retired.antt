@@ -1,13 +1,10 @@
 -- A caller that ends.
 use Rattle.std.specs.Prelude.{◌≡◌, ◌≤◌, ℕ, ◌+◌, length, vec_capacity, List}
 use Rattle.atomic_table.specs.Seated.{TableId}
-use Rattle.turn_history.specs.declared.pass.View.{View}
-use Rattle.turn_history.specs.Prelude.{StartsWith, entries_of, IsIdle}
+use Rattle.turn_history.specs.{declared.pass.View.View, Prelude.StartsWith, Prelude.entries_of, Prelude.IsIdle}
 use Rattle.store_model.specs.Prelude.{Inactive, HandleOperation, Entry}
 use Rattle.locked_store.specs.Prelude.{IsAt, World}
-use Rattle.callers.specs.Called.{Legal}
-use Rattle.callers.specs.Handles.{AreIdle, AreOperations, ArePairs, leases_of, operation_at}
-use Rattle.callers.specs.declared.caller.Caller.{Caller}
+use Rattle.callers.specs.{Called.Legal, Handles.AreIdle, Handles.AreOperations, Handles.ArePairs, Handles.leases_of, Handles.operation_at, declared.caller.Caller.Caller}
 
 -- From one view of a caller to a later one the caller made no call.
 pub record MakesNoCall {B : Type 0} (v u : View Entry B) : Type 0 where

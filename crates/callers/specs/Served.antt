@@ -1,16 +1,10 @@
 -- What a caller's methods say of a call, over the caller before and after it.
 use Rattle.std.specs.Prelude.{◌≡◌, ◌<◌, ◌≤◌, ◌+◌, ℕ, List, length, Result, Err}
-use Rattle.psa_status.specs.declared.Status.{Status}
-use Rattle.psa_status.specs.declared.Status.TheVariants.{PassWorn}
-use Rattle.service_calls.specs.Meanings.{model_request}
-use Rattle.service_calls.specs.declared.call.Call.{Call}
-use Rattle.service_calls.specs.declared.output.Output.{Output}
+use Rattle.psa_status.specs.{declared.Status.Status, declared.Status.TheVariants.PassWorn}
+use Rattle.service_calls.specs.{Meanings.model_request, declared.call.Call.Call, declared.output.Output.Output}
 use Rattle.store_model.specs.Prelude.{HandleOperation}
 use Rattle.locked_store.specs.Prelude.{World}
-use Rattle.callers.specs.Budget.{asked_for, counted_by}
-use Rattle.callers.specs.Called.{IsAnswered}
-use Rattle.callers.specs.Handles.{AreOperations}
-use Rattle.callers.specs.declared.caller.Caller.{Caller}
+use Rattle.callers.specs.{Budget.asked_for, Budget.counted_by, Called.IsAnswered, Handles.AreOperations, declared.caller.Caller.Caller}
 
 module _ {D A C : Type 0} where
   -- the call was answered with its rank, and this is what its output buffer had and has

@@ -1,6 +1,5 @@
 // A call, whichever it is.
-ghost use Rattle.std.specs.Prelude.{◌≡◌, ◌≤◌, ◌<◌, ◌+◌, ◌^◌, ℕ, true, false, cond, List, Some, None, Err, IfSome, IfNone, length};
-ghost use Rattle.std.specs.Result.{is_ok};
+ghost use Rattle.std.specs.{Prelude.◌≡◌, Prelude.◌≤◌, Prelude.◌<◌, Prelude.◌+◌, Prelude.◌^◌, Prelude.ℕ, Prelude.true, Prelude.false, Prelude.cond, Prelude.List, Prelude.Some, Prelude.None, Prelude.Err, Prelude.IfSome, Prelude.IfNone, Prelude.length, Result.is_ok};
 ghost use Rattle.psa_status.specs.declared.Status.TheVariants.{PassWorn};
 ghost use Rattle.service_calls.specs.Meanings.{model_request};
 ghost use Rattle.service_calls.specs.declared.call.Call.TheVariants as calls;

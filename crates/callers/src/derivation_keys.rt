@@ -2,12 +2,11 @@
 ghost use Rattle.std.specs.Prelude.{◌≡◌, ◌≤◌, ◌-◌, List, Some, None, IfSome, IfNone, get_or, length, ◌/◌, min};
 ghost use Rattle.secret_bytes.specs.Buffer.{bytes_of};
 ghost use Rattle.service_calls.specs.Answers.{plain_reply};
-ghost use Rattle.store_model.specs.Prelude.{DerivationWork, HandleOperation, KeyCreation, derivation_part, part_of, Active, refusal};
+ghost use Rattle.store_model.specs.{Prelude.DerivationWork, Prelude.HandleOperation, Prelude.KeyCreation, Prelude.derivation_part, Prelude.part_of, Prelude.Active, Prelude.refusal, DerivationOperations.stated_bytes};
 ghost use Rattle.operation_handles.specs.{Handles.IsOperation, KeyInputs.RefusesKeyAt, KeyInputs.TakesKeyAt, KeyInputs.key_refused, KeyOutputs.IsDerivedKey, KeyOutputs.derived_key_refused};
 ghost use Rattle.operation_handles.specs.declared.handle.OperationHandle as handle;
 ghost use Rattle.callers.specs.Prelude.{AreOperations, FailsDerivation, HoldsLease, IsChanged, MayTakeKey, operation_at, with_secret, without_bytes};
 ghost use Rattle.derivation_states.specs.KeySteps.{output_key_refusal};
-ghost use Rattle.store_model.specs.DerivationOperations.{stated_bytes};
 
 use crate::handles::Handles;
 use derivation_states::KEY_ROOM;

@@ -3,8 +3,7 @@ ghost use Rattle.std.specs.Prelude.{◌≡◌, ◌≤◌, ◌-◌, ℕ, List, So
 ghost use Rattle.service_calls.specs.declared.call.Call.TheVariants as calls;
 ghost use Rattle.service_calls.specs.declared.handle_calls.HandleCall.TheVariants as handle_calls;
 ghost use Rattle.store_model.specs.Prelude.{HandleOperation, derivation_part, part_of};
-ghost use Rattle.operation_handles.specs.{Handles.IsOperation, KeyInputs.RefusesKeyAt, KeyInputs.TakesKeyAt};
-ghost use Rattle.operation_handles.specs.declared.handle.OperationHandle.{OperationHandle};
+ghost use Rattle.operation_handles.specs.{Handles.IsOperation, KeyInputs.RefusesKeyAt, KeyInputs.TakesKeyAt, declared.handle.OperationHandle.OperationHandle};
 ghost use Rattle.callers.specs.Prelude.{IsReady, IsServedUnwritten};
 ghost use Rattle.locked_store.specs.Prelude.{world};
 ghost use Rattle.derivation_states.specs.KeySteps.{output_key_refusal};

@@ -1,12 +1,9 @@
 // A key of random bytes.
 ghost use Rattle.std.specs.Prelude.{◌≡◌, ◌≤◌, ℕ, List, Some, None, true, false, length, replicate};
-ghost use Rattle.psa_status.specs.Rows.{first_row};
-ghost use Rattle.psa_status.specs.declared.Status.TheVariants.{InvalidArgument};
+ghost use Rattle.psa_status.specs.{Rows.first_row, declared.Status.TheVariants.InvalidArgument};
 ghost use Rattle.random_streams.specs.RandomWords.{drawn_from, next_bytes};
-ghost use Rattle.service_calls.specs.Asked.{creates};
-ghost use Rattle.service_calls.specs.declared.store_calls.Creation.TheVariants.{Generate};
-ghost use Rattle.store_model.specs.Creation.{stated_bytes};
-ghost use Rattle.store_model.specs.Prelude.{stated_bits_rows};
+ghost use Rattle.service_calls.specs.{Asked.creates, declared.store_calls.Creation.TheVariants.Generate};
+ghost use Rattle.store_model.specs.{Creation.stated_bytes, Prelude.stated_bits_rows};
 ghost use Rattle.callers.specs.Prelude.{IsReady, IsServedUnwritten, drawn_for};
 ghost use Rattle.locked_store.specs.Prelude.{world};
 

@@ -1,6 +1,5 @@
 // The operations of a caller's four handles.
-ghost use Rattle.std.specs.Prelude.{◌≡◌, ◌≤◌, ◌<◌, ◌+◌, ◌-◌, ◌^◌, List, None, get_or, length};
-ghost use Rattle.std.specs.Option.{option_map};
+ghost use Rattle.std.specs.{Prelude.◌≡◌, Prelude.◌≤◌, Prelude.◌<◌, Prelude.◌+◌, Prelude.◌-◌, Prelude.◌^◌, Prelude.List, Prelude.None, Prelude.get_or, Prelude.length, Option.option_map};
 ghost use Rattle.random_streams.specs.RandomWords.{drawn_from};
 ghost use Rattle.secret_bytes.specs.Buffer.{bytes_of};
 ghost use Rattle.key_policy.specs.Uses.{FitsUse, used_for};

@@ -1,11 +1,9 @@
 // Calls on keys as wholes.
 ghost use Rattle.std.specs.Prelude.{◌≡◌, ℕ, List, ◌≤◌, None, IfOk, IfErr, length};
-ghost use Rattle.service_calls.specs.{Asked.changes, Asked.creates, Meanings.model_request};
-ghost use Rattle.service_calls.specs.declared.store_calls.KeyChange.TheVariants.{Destroy, GetAttributes, Purge, Copy};
+ghost use Rattle.service_calls.specs.{Asked.changes, Asked.creates, Meanings.model_request, declared.store_calls.KeyChange.TheVariants.Destroy, declared.store_calls.KeyChange.TheVariants.GetAttributes, declared.store_calls.KeyChange.TheVariants.Purge, declared.store_calls.KeyChange.TheVariants.Copy, declared.store_calls.Creation.TheVariants.Import};
 ghost use Rattle.callers.specs.Prelude.{IsCreated, IsReady, IsServedUnwritten, Legal, SameButPass};
 ghost use Rattle.locked_store.specs.Prelude.{world, CreatesKey, DecidesBefore, HasNoFilling, IsAt};
 ghost use Rattle.turn_history.specs.Prelude.{entries_of};
-ghost use Rattle.service_calls.specs.declared.store_calls.Creation.TheVariants.{Import};
 ghost use Rattle.store_model.specs.Prelude.{Plain};
 ghost use Rattle.store_core.specs.Prelude.{IsMade, IsUnmade, RecordsStated, mark_unmade};
 

@@ -1,16 +1,13 @@
 // Calls in one part.
-ghost use Rattle.std.specs.Prelude.{◌≡◌, length, ◌&&◌, ◌≤◌, ◌<◌, ◌+◌, ◌^◌, ℕ, true, false, All, Result, vec_capacity, vec_len};
-ghost use Rattle.service_calls.specs.{Asked.hashes, Meanings.model_keyed_call};
+ghost use Rattle.std.specs.{Prelude.◌≡◌, Prelude.length, Prelude.◌&&◌, Prelude.◌≤◌, Prelude.◌<◌, Prelude.◌+◌, Prelude.◌^◌, Prelude.ℕ, Prelude.true, Prelude.false, Prelude.All, Prelude.Result, Prelude.vec_capacity, Prelude.vec_len, Result.is_ok};
+ghost use Rattle.service_calls.specs.{Asked.hashes, Meanings.model_keyed_call, declared.call.Call.TheVariants.OnStore, declared.store_calls.StoreCall.TheVariants.Compute};
 ghost use Rattle.callers.specs.Prelude.{IsGivenBack, IsReady, IsReplied, IsServed, Legal, SameButPass, drawn_by};
 ghost use Rattle.locked_store.specs.Prelude.{world, IsAt};
-ghost use Rattle.std.specs.Result.{is_ok};
 ghost use Rattle.random_streams.specs.RandomWords.{drawn_from, next_bytes};
 ghost use Rattle.secret_bytes.specs.Buffer.{bytes_of};
 ghost use Rattle.turn_history.specs.Prelude.{entries_of};
 ghost use Rattle.key_slots.specs.Holdings.{names};
 ghost use Rattle.key_policy.specs.Uses.{FitsUse};
-ghost use Rattle.service_calls.specs.declared.call.Call.TheVariants.{OnStore};
-ghost use Rattle.service_calls.specs.declared.store_calls.StoreCall.TheVariants.{Compute};
 ghost use Rattle.secure_element_calls.specs.{Calls.model_call, Replies.HasDrawn};
 ghost use Rattle.single_part.specs.{Elements.IsElementCall, Elements.has_vector, Elements.is_of_element, Elements.takes_vector, Keyed.computed_by, Keyed.wanted_by};
 

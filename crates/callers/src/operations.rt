@@ -1,15 +1,12 @@
 // Calls that begin an operation, and calls on one that is there.
-ghost use Rattle.std.specs.Prelude.{◌≡◌, ◌≤◌, ◌<◌, ◌+◌, ◌-◌, ◌^◌, ℕ, List, cond, get_or, Ok, true, length};
-ghost use Rattle.std.specs.Result.{is_ok};
-ghost use Rattle.service_calls.specs.{Asked.sets_up, Asked.sets_up_with, Meanings.model_request};
+ghost use Rattle.std.specs.{Prelude.◌≡◌, Prelude.◌≤◌, Prelude.◌<◌, Prelude.◌+◌, Prelude.◌-◌, Prelude.◌^◌, Prelude.ℕ, Prelude.List, Prelude.cond, Prelude.get_or, Prelude.Ok, Prelude.true, Prelude.length, Result.is_ok};
+ghost use Rattle.service_calls.specs.{Asked.sets_up, Asked.sets_up_with, Meanings.model_request, declared.output.Output.TheVariants.Done};
 ghost use Rattle.service_calls.specs.declared.call.Call.TheVariants as calls;
 ghost use Rattle.service_calls.specs.declared.handle_calls.HandleCall.TheVariants as handle_calls;
 ghost use Rattle.store_model.specs.Prelude.{HandleOperation, Inactive, is_inactive};
-ghost use Rattle.operation_handles.specs.Handles.{IsOperation};
-ghost use Rattle.operation_handles.specs.declared.handle.OperationHandle.{OperationHandle};
+ghost use Rattle.operation_handles.specs.{Handles.IsOperation, declared.handle.OperationHandle.OperationHandle};
 ghost use Rattle.callers.specs.Prelude.{AreOperations, IsAnswered, IsReady, IsServed, IsServedUnwritten, operation_at};
 ghost use Rattle.locked_store.specs.Prelude.{world};
-ghost use Rattle.service_calls.specs.declared.output.Output.TheVariants.{Done};
 
 use crate::caller::Caller;
 use crate::gates::{Gate, GatePoint};

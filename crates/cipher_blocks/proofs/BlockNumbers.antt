@@ -1,7 +1,6 @@
 -- A block as a number and back, and sums of blocks.
 use Rattle.cipher_blocks.proofs.Common.{List, [], ap, ap₂, arith, bit_xor, block_number, byte_at, bytes_high_first, div-mul-add, length, mod-mul-add, mul-add-lt, number_block, pow-add, refl, slice_index, suc, sym, xor_bytes, xor_mod, xor_shr, zero, ℕ, ◌%◌, ◌*◌, ◌++◌, ◌+◌, ◌/◌, ◌<◌, ◌^◌, ◌∙◌, ◌∷◌, ◌≡◌}
-use Rattle.std.proofs.Math.Nat.{pow-suc, mul_comm, mod-eq_of_lt}
-use Rattle.std.proofs.Math.Arith.{mod-mul}
+use Rattle.std.proofs.{Math.Nat.pow-suc, Math.Nat.mul_comm, Math.Nat.mod-eq_of_lt, Math.Arith.mod-mul}
 
 -- the number of some bytes, first byte highest
 unfoldable value : List ℕ → ℕ

@@ -1,6 +1,5 @@
 -- What several proofs of this crate cite of its words, and of other crates'.
-pub use Rattle.crypto_specs.proofs.Blocks.{length-number_block, number_of_filled}
-pub use Rattle.crypto_specs.proofs.XorBytes.{length-xor_bytes, xor_bytes-append, xor_bytes_next}
+pub use Rattle.crypto_specs.proofs.{Blocks.length-number_block, Blocks.number_of_filled, XorBytes.length-xor_bytes, XorBytes.xor_bytes-append, XorBytes.xor_bytes_next}
 pub use Rattle.crypto_specs.specs.Prelude.{xor_bytes}
 unfoldable pub use Rattle.crypto_specs.specs.Prelude.{block_number, number_block}
 pub use Rattle.std.proofs.Common.{Bool, IsTrue, List, [], add-one, ap, ap₂, arith, bit_xor, drop, eqb, length, refl, replicate, slice_index, suc, sym, take, zero, ℕ, ◌%◌, ◌*◌, ◌++◌, ◌+◌, ◌-◌, ◌/◌, ◌<◌, ◌^◌, ◌↔◌, ◌∙◌, ◌∷◌, ◌≡◌, ◌≤◌}

@@ -7,8 +7,7 @@
 //!   written, compared and xored.
 #![tactic(auto)]
 
-ghost use Rattle.std.specs.Prelude.{◌≡◌, ◌+◌, ◌-◌, ◌≤◌, ◌++◌, ◌↔◌, IsTrue, length, take, drop, replicate};
-ghost use Rattle.std.specs.Int.{to_be_bytes, w64};
+ghost use Rattle.std.specs.{Prelude.◌≡◌, Prelude.◌+◌, Prelude.◌-◌, Prelude.◌≤◌, Prelude.◌++◌, Prelude.◌↔◌, Prelude.IsTrue, Prelude.length, Prelude.take, Prelude.drop, Prelude.replicate, Int.to_be_bytes, Int.w64};
 ghost use Rattle.crypto_specs.specs.Prelude.{xor_bytes, block_number, number_block};
 
 /// The number of a block.

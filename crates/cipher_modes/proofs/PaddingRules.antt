@@ -1,7 +1,6 @@
 -- PKCS#7 padding of one block.
 use Rattle.cipher_modes.proofs.Common.{Bool, List, None, Some, [], ap, append-nil, ap₂, arith, bytes_eq, cases_lt, cond, drop, drop_all, drop_at, get_or_at, inl, inr, le-leb, length, length-drop, length-take, lt-leb, nat_le, pkcs7_padded, pkcs7_unpadded, refl, replicate, slice_index, sym, take, take-append-drop, ℕ, ◌%◌, ◌&&◌, ◌++◌, ◌+◌, ◌-◌, ◌<◌, ◌∙◌, ◌≡◌, ◌≤◌, ◌⊎◌}
-use Rattle.std.proofs.lemmas.Bool.{false_from_ne_true}
-use Rattle.std.proofs.lemmas.Slice.Eq.{bytes_eq-Decides}
+use Rattle.std.proofs.{lemmas.Bool.false_from_ne_true, lemmas.Slice.Eq.bytes_eq-Decides}
 
 -- the room after the first bytes, filled
 pub filled_to_end : (used : ℕ) (block filled : List ℕ) → length block ≡ 16 → used < 16 → filled ≡ replicate (length (take (16 - used) (drop used block))) (16 - used)

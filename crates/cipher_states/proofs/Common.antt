@@ -2,8 +2,7 @@
 pub use Rattle.aead_streams.proofs.StreamLaws.{length-text_xor, text_xor-append}
 unfoldable pub use Rattle.aead_streams.specs.Counters.{text_xor}
 pub use Rattle.aead_streams.specs.{Streams.IsAt, declared.counter_width.CounterWidth.TheVariants.Whole}
-pub use Rattle.cipher_states.specs.{Modes.due_bytes, Modes.is_stream, Modes.keeps_last, States.HoldsCipher, States.RunsMode, States.due_now, Texts.HoldsBlockText, Texts.RunsBlocks}
-pub use Rattle.cipher_states.specs.{Ways.chains, Ways.last_ciphertext_block, Ways.next_chain, Ways.processed, Ways.way_of, declared.running.RunningCipher.RunningCipher, declared.ways.Way.Way, declared.block_text.BlockText.BlockText}
+pub use Rattle.cipher_states.specs.{Modes.due_bytes, Modes.is_stream, Modes.keeps_last, States.HoldsCipher, States.RunsMode, States.due_now, Texts.HoldsBlockText, Texts.RunsBlocks, Ways.chains, Ways.last_ciphertext_block, Ways.next_chain, Ways.processed, Ways.way_of, declared.running.RunningCipher.RunningCipher, declared.ways.Way.Way, declared.block_text.BlockText.BlockText}
 pub use Rattle.cipher_states.specs.declared.ways.Way.TheVariants.{CbcDecrypt, CbcEncrypt, EcbDecrypt, EcbEncrypt}
 pub use Rattle.crypto_specs.specs.Prelude.{joined, xor_bytes}
 unfoldable pub use Rattle.crypto_specs.specs.Prelude.{aes_decrypt, aes_encrypt, block_number, blocks, cbc_blocks, cbc_decrypt, cbc_encrypt, cbc_plain_blocks, ctr_xor, ecb_decrypt, ecb_encrypt, pkcs7_padded, pkcs7_unpadded}

@@ -1,8 +1,7 @@
 -- What a finish gives, by the state.
 use Rattle.std.proofs.lemmas.Grind.{common_steps}
 use Rattle.cipher_states.proofs.Common.{Bool, Bytes, CbcDecrypt, CbcPkcs7, CipherWork, HoldsCipher, InError, Inactive, List, Operation, RunningCipher, Success, Way, [], ap, ap₂, arith, bytes_or_empty, chains, drop, due_bytes, ends, eqb-false, false, given, if◌then◌else◌, is_stream, is_whole_text, keeps_last, last_length, last_part, length, length-drop, mode_of, model_mode, next_chain, not, pkcs7_padded, pkcs7_unpadded, processed, refl, replicate, rules, sym, take, takes_text, true, way_of, whole_text, ℕ, ◌%◌, ◌&&◌, ◌++◌, ◌+◌, ◌-◌, ◌<◌, ◌==◌, ◌∙◌, ◌≡◌}
-use Rattle.multipart.specs.Phases.{LeadsTo}
-use Rattle.multipart.specs.declared.Phase.{Phase}
+use Rattle.multipart.specs.{Phases.LeadsTo, declared.Phase.Phase}
 use Rattle.multipart.specs.declared.Phase.TheVariants as phase
 use Rattle.cipher_states.proofs.{WayLaws.length-next_chain, RunningTexts.runs_blocks, LastParts.end_at, LastParts.end_is, LastParts.nothing_left, LastParts.pkcs7_mode, LastParts.padded_end, LastParts.unpadded_end, LastParts.unpadded_is}
 

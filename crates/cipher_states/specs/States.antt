@@ -1,16 +1,11 @@
 -- What a cipher in several parts stands for.
 use Rattle.std.specs.Prelude.{◌≡◌, ℕ, ◌+◌, MatchBool, IfSome, true, false, [], length, is_some, if◌then◌else◌}
 use Rattle.crypto_specs.specs.Prelude.{aes_encrypt, block_number}
-use Rattle.aead_streams.specs.declared.counter_width.CounterWidth.TheVariants.{Whole}
-use Rattle.aead_streams.specs.Streams.{IsAt, IsClearStream}
+use Rattle.aead_streams.specs.{declared.counter_width.CounterWidth.TheVariants.Whole, Streams.IsAt, Streams.IsClearStream}
 use Rattle.store_model.specs.Prelude.{Mode, mode_of, CipherWork, bytes_or_empty, takes_text, Operation}
 use Rattle.key_policy.specs.Modes.{model_mode}
 use Rattle.multipart.specs.States.{StandsForOptional}
-use Rattle.cipher_states.specs.declared.running.RunningCipher.{RunningCipher}
-use Rattle.cipher_states.specs.declared.state.CipherState.{CipherState}
-use Rattle.cipher_states.specs.Modes.{due_bytes, is_stream, keeps_last}
-use Rattle.cipher_states.specs.Ways.{way_of}
-use Rattle.cipher_states.specs.Texts.{RunsBlocks, IsClearText}
+use Rattle.cipher_states.specs.{declared.running.RunningCipher.RunningCipher, declared.state.CipherState.CipherState, Modes.due_bytes, Modes.is_stream, Modes.keeps_last, Ways.way_of, Texts.RunsBlocks, Texts.IsClearText}
 
 -- the text so far has run under a mode
 abbrev pub RunsMode : Mode → RunningCipher → CipherWork → Type 0

@@ -1,9 +1,6 @@
 -- What a BlockText stands for.
 use Rattle.std.specs.Prelude.{◌≡◌, ℕ, ◌+◌, Bool, true, List, length, take, drop, replicate}
-use Rattle.cipher_states.specs.declared.ways.Way.{Way}
-use Rattle.cipher_states.specs.declared.block_text.BlockText.{BlockText}
-use Rattle.cipher_states.specs.Modes.{due_bytes}
-use Rattle.cipher_states.specs.Ways.{chains, next_chain}
+use Rattle.cipher_states.specs.{declared.ways.Way.Way, declared.block_text.BlockText.BlockText, Modes.due_bytes, Ways.chains, Ways.next_chain}
 
 -- Of the text so much as is due was processed under the key from the initialisation vector on, and the rest is kept.
 pub record HoldsBlockText (t : BlockText) (key iv text : List ℕ) : Type 0 where

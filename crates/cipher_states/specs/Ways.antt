@@ -2,8 +2,7 @@
 use Rattle.std.specs.Prelude.{ℕ, Bool, true, false, List, ◌++◌, length, drop, if◌then◌else◌}
 use Rattle.crypto_specs.specs.Prelude.{aes_encrypt, aes_decrypt, cbc_encrypt, cbc_decrypt, ecb_encrypt, ecb_decrypt}
 use Rattle.store_model.specs.Prelude.{Mode, CbcNoPadding, CbcPkcs7}
-use Rattle.cipher_states.specs.declared.ways.Way.{Way}
-use Rattle.cipher_states.specs.declared.ways.Way.TheVariants.{EcbEncrypt, EcbDecrypt, CbcEncrypt, CbcDecrypt}
+use Rattle.cipher_states.specs.{declared.ways.Way.Way, declared.ways.Way.TheVariants.EcbEncrypt, declared.ways.Way.TheVariants.EcbDecrypt, declared.ways.Way.TheVariants.CbcEncrypt, declared.ways.Way.TheVariants.CbcDecrypt}
 
 abbrev pub way_of : Mode → Bool → Way
 way_of CbcNoPadding encrypts = if encrypts then CbcEncrypt else CbcDecrypt

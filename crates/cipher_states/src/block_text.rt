@@ -2,8 +2,7 @@
 ghost use Rattle.std.specs.Prelude.{◌≡◌, ◌+◌, ◌<◌, ◌≤◌, ◌%◌, ℕ, List, [], ◌++◌, Bool, true, length, replicate, take};
 ghost use Rattle.crypto_specs.specs.Prelude.{IsKey, pkcs7_padded};
 ghost use Rattle.store_model.specs.Prelude.{total_limit};
-ghost use Rattle.cipher_states.specs.Ways.{chains, processed};
-ghost use Rattle.cipher_states.specs.Modes.{due_bytes};
+ghost use Rattle.cipher_states.specs.{Ways.chains, Ways.processed, Modes.due_bytes};
 
 use crate::ways::Way;
 use aes_core::AesKey;

@@ -1,6 +1,5 @@
 // The end of a text.
-ghost use Rattle.std.specs.Prelude.{◌≡◌, ◌≤◌, IfOk, [], length, true, is_some, if◌then◌else◌};
-ghost use Rattle.std.specs.Result.{is_ok};
+ghost use Rattle.std.specs.{Prelude.◌≡◌, Prelude.◌≤◌, Prelude.IfOk, Prelude.[], Prelude.length, Prelude.true, Prelude.is_some, Prelude.if◌then◌else◌, Result.is_ok};
 ghost use Rattle.crypto_specs.specs.Prelude.{IsKey, pkcs7_unpadded};
 ghost use Rattle.store_model.specs.Prelude.{buffer_after, InError, Inactive, plain_or_zeros, CipherFinish, CipherWork, cipher_step, is_whole_text, last_length, last_part, takes_text, whole_text};
 ghost use Rattle.service_calls.specs.Answers.{AnswersOrSpoils};

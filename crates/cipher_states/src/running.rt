@@ -1,12 +1,10 @@
 // A cipher that runs over a text which comes piece by piece.
-ghost use Rattle.std.specs.Prelude.{◌≡◌, ◌-◌, ◌%◌, ◌≤◌, ℕ, List, IfOk, OnOk, length, true};
-ghost use Rattle.std.specs.Result.{result_err};
+ghost use Rattle.std.specs.{Prelude.◌≡◌, Prelude.◌-◌, Prelude.◌%◌, Prelude.◌≤◌, Prelude.ℕ, Prelude.List, Prelude.IfOk, Prelude.OnOk, Prelude.length, Prelude.true, Result.result_err};
 ghost use Rattle.psa_status.specs.Rows.{first_row, unless};
 ghost use Rattle.crypto_specs.specs.Prelude.{IsKey};
 ghost use Rattle.store_model.specs.Prelude.{total_limit, buffer_after, given, reply_unless, CipherWork, cipher_step, cipher_finish_rows, cipher_fresh, cipher_update_rows, is_whole_text, last_length, takes_iv, takes_text, with_text, mode_of};
 ghost use Rattle.key_policy.specs.Modes.{model_mode};
-ghost use Rattle.service_calls.specs.Meanings.{model_cipher_step};
-ghost use Rattle.service_calls.specs.Random.{takes_iv_bytes};
+ghost use Rattle.service_calls.specs.{Meanings.model_cipher_step, Random.takes_iv_bytes};
 ghost use Rattle.cipher_states.specs.Modes.{is_stream};
 
 use crate::block_text::BlockText;

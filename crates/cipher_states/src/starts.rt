@@ -1,18 +1,11 @@
 // The start of a text: its key, and its initialisation vector.
-ghost use Rattle.std.specs.Prelude.{◌≡◌, ◌≤◌, ℕ, List, [], IfOk, IsTrue, OnOk, length, true};
-ghost use Rattle.std.specs.Result.{result_err};
+ghost use Rattle.std.specs.{Prelude.◌≡◌, Prelude.◌≤◌, Prelude.ℕ, Prelude.List, Prelude.[], Prelude.IfOk, Prelude.IsTrue, Prelude.OnOk, Prelude.length, Prelude.true, Result.result_err};
 ghost use Rattle.psa_status.specs.Rows.{first_row};
 ghost use Rattle.crypto_specs.specs.Prelude.{IsKey, block_number};
-ghost use Rattle.aead_streams.specs.declared.counter_width.CounterWidth.TheVariants.{Whole};
-ghost use Rattle.aead_streams.specs.Streams.{IsAt};
+ghost use Rattle.aead_streams.specs.{declared.counter_width.CounterWidth.TheVariants.Whole, Streams.IsAt};
 ghost use Rattle.store_model.specs.Prelude.{buffer_after, given, reply_unless, CipherGenerateIv, CipherWork, cipher_step, cipher_work, generate_iv_rows, set_iv_rows, takes_iv, with_iv};
-ghost use Rattle.key_policy.specs.Keys.{is_key};
-ghost use Rattle.key_policy.specs.Modes.{model_mode};
-ghost use Rattle.key_policy.specs.Names.{NamesMode};
-ghost use Rattle.cipher_states.specs.States.{HoldsCipher, IsClearRunningCipher};
-ghost use Rattle.cipher_states.specs.Modes.{keeps_last};
-ghost use Rattle.cipher_states.specs.Texts.{RunsBlocks};
-ghost use Rattle.cipher_states.specs.Ways.{chains, way_of};
+ghost use Rattle.key_policy.specs.{Keys.is_key, Modes.model_mode, Names.NamesMode};
+ghost use Rattle.cipher_states.specs.{States.HoldsCipher, States.IsClearRunningCipher, Modes.keeps_last, Texts.RunsBlocks, Ways.chains, Ways.way_of};
 
 use crate::block_text::BlockText;
 use crate::running::RunningCipher;

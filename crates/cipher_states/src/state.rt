@@ -1,16 +1,12 @@
 // A cipher in several parts.
-ghost use Rattle.std.specs.Prelude.{◌≡◌, IsTrue, true, false};
-ghost use Rattle.std.specs.Option.{ForSome};
+ghost use Rattle.std.specs.{Prelude.◌≡◌, Prelude.IsTrue, Prelude.true, Prelude.false, Option.ForSome};
 ghost use Rattle.crypto_specs.specs.Prelude.{IsKey};
-ghost use Rattle.service_calls.specs.Answers.{plain_reply};
-ghost use Rattle.service_calls.specs.Meanings.{model_cipher_step};
-ghost use Rattle.service_calls.specs.Random.{takes_iv_bytes};
+ghost use Rattle.service_calls.specs.{Answers.plain_reply, Meanings.model_cipher_step, Random.takes_iv_bytes};
 ghost use Rattle.store_model.specs.Prelude.{Operation, Inactive, is_inactive, CipherWork, cipher_step, refusal};
 ghost use Rattle.multipart.specs.Turns.{is_active, loses_key};
 ghost use Rattle.multipart.specs.declared.Phase.TheVariants as phases;
 ghost use Rattle.alg_encoding.specs.declared.table.Class.TheVariants.{Cipher};
-ghost use Rattle.key_policy.specs.Names.{IsOfClass};
-ghost use Rattle.key_policy.specs.Keys.{is_key};
+ghost use Rattle.key_policy.specs.{Names.IsOfClass, Keys.is_key};
 ghost use Rattle.cipher_states.specs.Setups.{cipher_setup};
 
 use crate::running::RunningCipher;

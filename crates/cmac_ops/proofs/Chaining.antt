@@ -3,8 +3,7 @@ use Rattle.cmac_ops.proofs.Common.{Bool, ChainHolds, IsChained, List, [], aes_en
 use Rattle.std.proofs.lemmas.Bool.{cases_eq, eq-eqb, ne_eqb}
 use Rattle.cmac_ops.specs.declared.chain.Chain.{Chain}
 use Rattle.crypto_specs.proofs.Blocks.{blocks-append}
-use Rattle.cmac_ops.proofs.Blocks.{blocks-add-one, chained_push}
-use Rattle.cmac_ops.proofs.Numbers.{length-block, number_from}
+use Rattle.cmac_ops.proofs.{Blocks.blocks-add-one, Blocks.chained_push, Numbers.length-block, Numbers.number_from}
 
 -- the full block is enciphered
 pub enciphered : (c d : Chain) (key m : List ℕ) (n : ℕ) → c.used ≡ 16 → number_block n ≡ c.block → number_block d.value ≡ aes_encrypt key (number_block (bit_xor c.value n)) → d.used ≡ 0 → IsChained c key m → IsChained d key m

@@ -1,8 +1,7 @@
 -- What a running CMAC (SP 800-38B) stands for.
 use Rattle.std.specs.Prelude.{◌≡◌, ℕ, List, []}
 use Rattle.crypto_specs.specs.Prelude.{IsKey}
-use Rattle.cmac_ops.specs.Chains.{ChainHolds, IsWipedChain}
-use Rattle.cmac_ops.specs.declared.state.CmacState.{CmacState}
+use Rattle.cmac_ops.specs.{Chains.ChainHolds, Chains.IsWipedChain, declared.state.CmacState.CmacState}
 
 -- the state has a key: it isn't wiped
 abbrev pub IsKeyed : CmacState → Type 0

@@ -9,7 +9,7 @@ use crate::fixtures::{SECURE_ELEMENT, new_disk, without_keys};
 use crate::limits::{BUDGET, try_limits};
 use crate::texts::Text;
 use admission::{Admission, Rules};
-use caller_service::{Closed, Service};
+use caller_service::{Closed, Limits, Service};
 use callers::{Caller, NoGate};
 use disk_face::{Disk, Fails};
 use driver_dispatch::{Devices, Driver, Drivers};
@@ -46,7 +46,10 @@ fn run_limits<D: Disk + Drop, A: Devices, C: Admission, R: Wait>(
 ) -> Result<(), AllocError>
     requires { (handle : ℕ) → Lacks (A.keys devices) handle }
 {
-    let opened = Service::open(alloc, disk, devices, rules, &[0; 32], BUDGET, NoGate);
+    let limits = Limits::Whole;
+    let opened = Service::open(
+        alloc, disk, devices, rules, limits, &[0; 32], BUDGET, NoGate,
+    );
     let Ok((service, mut callers)) = opened else {
         return Err(AllocError);
     };

@@ -1,7 +1,6 @@
 //! What the top call runs over, in memory.
 ghost use Rattle.std.specs.Prelude.{◌≡◌, ◌∷◌, [], ℕ, Some};
-ghost use Rattle.driver_dispatch.specs.Held.{no_keys};
-ghost use Rattle.driver_dispatch.specs.Calls.{Lacks};
+ghost use Rattle.driver_dispatch.specs.{Held.no_keys, Calls.Lacks};
 
 use crate::sinks::Narrow;
 use admission::Admission;

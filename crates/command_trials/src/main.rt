@@ -11,6 +11,7 @@ mod crashes;
 mod fixtures;
 mod limits;
 mod meeting;
+mod ranges;
 mod sections;
 mod sinks;
 mod texts;

@@ -6,7 +6,7 @@ ghost use Rattle.script_lang.specs.Prelude.{IsOfSession};
 use crate::fixtures::{new_disk, without_keys};
 use crate::texts::Text;
 use admission::{Admission, Rules};
-use caller_service::{Closed, Service};
+use caller_service::{Closed, Limits, Service};
 use callers::{Gate, GatePoint};
 use disk_face::{Disk, Fails};
 use driver_dispatch::{Devices, Drivers};
@@ -124,6 +124,7 @@ fn run_meeting<D: Disk + Send + Drop, A: Devices, C: Admission, R: Threads + Wai
         disk,
         devices,
         rules,
+        Limits::Whole,
         &[0; 32],
         40_000,
         Meeting::new(),

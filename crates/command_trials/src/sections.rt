@@ -5,7 +5,7 @@ use std::alloc::{AllocError, Global};
 /// The numbers of a range are below this.
 const RANGE_LIMIT: u64 = 1000;
 
-/// What a section tries. The first six are a run for each number of its heading.
+/// What a section tries. The first eight are a run for each number of its heading.
 #[derive(Clone, Copy, Drop)]
 pub enum Trial {
     /// A run over a new disk whose calls fail from this one on.
@@ -17,6 +17,11 @@ pub enum Trial {
     /// One without a call, over a store that the script has made and that has cells left over, on a disk whose calls fail
     /// from this one on.
     LeftOver,
+    /// One without a call, over a store of the older layout with the keys that the script has made, on a disk whose calls fail
+    /// from this one on.
+    OlderFrom,
+    /// The same, on a disk that fails this call.
+    OlderOnce,
     /// One that fails this read of its script, which stands behind a long comment.
     Read,
     /// One that fails this write of its replies.
@@ -27,6 +32,8 @@ pub enum Trial {
     Meet,
     /// The calls of a client.
     Client,
+    /// The limits of ranges.
+    Ranges,
 }
 
 impl Trial {
@@ -37,11 +44,14 @@ impl Trial {
             "disk_once" => Some(Trial::DiskOnce),
             "disk_thrice" => Some(Trial::DiskThrice),
             "left_over" => Some(Trial::LeftOver),
+            "older_from" => Some(Trial::OlderFrom),
+            "older_once" => Some(Trial::OlderOnce),
             "read" => Some(Trial::Read),
             "write" => Some(Trial::Write),
             "disk_listed" => Some(Trial::DiskListed),
             "meet" => Some(Trial::Meet),
             "client" => Some(Trial::Client),
+            "ranges" => Some(Trial::Ranges),
             _ => None,
         }
     }
@@ -105,7 +115,7 @@ fn begin(
     let Some(numbers) = read_numbers(alloc, words)? else {
         return Ok(false);
     };
-    if numbers.is_empty() != matches!(trial, Trial::Meet | Trial::Client) {
+    if numbers.is_empty() != matches!(trial, Trial::Meet | Trial::Client | Trial::Ranges) {
         return Ok(false);
     }
     sections.push(Section {
@@ -128,7 +138,7 @@ fn set_element(
     let (Some(section), Some(numbers)) = (section, read_numbers(alloc, words)?) else {
         return Ok(false);
     };
-    if matches!(section.trial, Trial::Meet) || !section.script.bytes().is_empty() {
+    if matches!(section.trial, Trial::Meet | Trial::Ranges) || !section.script.bytes().is_empty() {
         return Ok(false);
     }
     section.element = numbers;

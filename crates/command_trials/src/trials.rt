@@ -3,12 +3,16 @@ use crate::client::try_client;
 use crate::crashes::{crashes, tell_end};
 use crate::fixtures::{Fixture, Ran, run};
 use crate::meeting::try_meeting;
+use crate::ranges::try_ranges;
 use crate::sections::{Section, Trial, range};
 use crate::texts::Text;
 use disk_face::Fails;
 use std::alloc::{AllocError, Global};
 use std::sync::Wait;
 use std::thread::Threads;
+
+/// How many bytes a store of the older layout has.
+const OLDER_SIZE: usize = 557_120;
 
 /// How long the comment is in front of a script a read of which fails: more than one piece, which has 65,536 bytes.
 const COMMENT: usize = 70_000;
@@ -20,8 +24,8 @@ fn set(store: &mut Vec<u8>, place: usize, byte: u8) {
     }
 }
 
-// The bytes of a store that a script makes, with the last two of four cells closed but not cleared: by another first byte.
-fn store_left_over<R: Threads + Wait + Sync>(
+// The bytes of a store that a script makes.
+fn whole_store<R: Threads + Wait + Sync>(
     rt: &R,
     alloc: Global,
     script: &[u8],
@@ -31,10 +35,38 @@ fn store_left_over<R: Threads + Wait + Sync>(
         alloc,
         Fixture::sound(alloc, script.to_vec(alloc)?, Vec::new(alloc)),
     )?;
-    let mut store = made.disk.bytes().to_vec(alloc)?;
+    made.disk.bytes().to_vec(alloc)
+}
+
+// The same, with the last two of four cells closed but not cleared: by another first byte.
+fn store_left_over<R: Threads + Wait + Sync>(
+    rt: &R,
+    alloc: Global,
+    script: &[u8],
+) -> Result<Vec<u8>, AllocError> {
+    let mut store = whole_store(rt, alloc, script)?;
     set(&mut store, 2240, 0);
     set(&mut store, 3328, 0xa4);
     Ok(store)
+}
+
+// The bytes of a store of the older layout with the keys that a script makes, and with rubbish behind its cells.
+fn older_store<R: Threads + Wait + Sync>(
+    rt: &R,
+    alloc: Global,
+    script: &[u8],
+) -> Result<Vec<u8>, AllocError> {
+    let made = whole_store(rt, alloc, script)?;
+    let mut store = Vec::new(alloc);
+    store.extend_from_slice(front(&made, OLDER_SIZE))?;
+    set(&mut store, 8, 1);
+    store.extend_from_slice(&[0xa5; 5000])?;
+    Ok(store)
+}
+
+// The first bytes of some, as many as there are up to a number.
+fn front(bytes: &[u8], count: usize) -> &[u8] {
+    bytes.get(..count).unwrap_or(bytes)
 }
 
 // A script behind a long comment.
@@ -48,7 +80,7 @@ fn behind_comment(alloc: Global, script: &[u8]) -> Result<Vec<u8>, AllocError> {
 // What the run of a section reads.
 fn script_of(alloc: Global, section: &Section) -> Result<Vec<u8>, AllocError> {
     match section.trial {
-        Trial::LeftOver => Ok(Vec::new(alloc)),
+        Trial::LeftOver | Trial::OlderFrom | Trial::OlderOnce => Ok(Vec::new(alloc)),
         Trial::Read => behind_comment(alloc, section.script.bytes()),
         _ => section.script.bytes().to_vec(alloc),
     }
@@ -78,6 +110,7 @@ fn store_of<R: Threads + Wait + Sync>(
 ) -> Result<Vec<u8>, AllocError> {
     match section.trial {
         Trial::LeftOver => store_left_over(rt, alloc, section.script.bytes()),
+        Trial::OlderFrom | Trial::OlderOnce => older_store(rt, alloc, section.script.bytes()),
         _ => Ok(Vec::new(alloc)),
     }
 }
@@ -85,8 +118,8 @@ fn store_of<R: Threads + Wait + Sync>(
 // Which calls of its disk fail.
 fn disk_of(alloc: Global, section: &Section, number: u64) -> Result<Fails, AllocError> {
     let listed = match section.trial {
-        Trial::DiskFrom | Trial::LeftOver => return Ok(Fails::From(number)),
-        Trial::DiskOnce => range(alloc, number, number)?,
+        Trial::DiskFrom | Trial::LeftOver | Trial::OlderFrom => return Ok(Fails::From(number)),
+        Trial::DiskOnce | Trial::OlderOnce => range(alloc, number, number)?,
         Trial::DiskThrice => range(alloc, number, number.saturating_add(2))?,
         Trial::DiskListed => section.numbers.to_vec(alloc)?,
         _ => return Ok(Fails::From(u64::MAX)),
@@ -175,6 +208,10 @@ pub fn try_section<R: Threads + Wait + Sync>(
         Trial::Client => {
             tell_heading(section, &[], page)?;
             try_client(rt, alloc, &section.element, page)
+        }
+        Trial::Ranges => {
+            tell_heading(section, &[], page)?;
+            try_ranges(rt, alloc, page)
         }
         Trial::DiskListed => try_run(rt, alloc, section, 0, &section.numbers, page),
         _ => try_each(rt, alloc, section, page),

@@ -3,11 +3,7 @@ use Rattle.std.proofs.Common.{rules, Bool, List, None, Option, Some, [], ap, ari
 use Rattle.command_words.proofs.Common.{App, Generate, Label, Names, Row, Rule, Rules, Run, RunOption, RunOptions, Seed, Shape, Text, Texts, Walk, Workers, asked_of, built, bytes_eq-Decides, command_of, count_of, entered, entered_passes, filled, finished, has_row, idle, is_valid, level_passes, names_of, new_rule, new_shape, none-some, nothing_held, number_to, option_and_then_some, options_in, program, rows_after, run_of, run_options, settle_passes, settled, subcommand_of, takes, texts_in, texts_of, turn_passes, walk, walk_passes, walk_stopped, walked, with_default, with_index}
 use Rattle.clap.specs.Words.{first_of}
 use Rattle.command_words.specs.declared.command.Command.{Command}
-use Rattle.command_words.proofs.Hyphens.{IsBare, AreBare, bare, are_bare, no_number}
-use Rattle.command_words.proofs.OptionWords.{mapped}
-use Rattle.command_words.proofs.Rows.{option_built, HasValues, texts_are_in}
-use Rattle.command_words.proofs.RunWalk.{run_rules, run_shape, between, Ends, follows}
-use Rattle.command_words.proofs.Settings.{text_at, reads_all}
+use Rattle.command_words.proofs.{Hyphens.IsBare, Hyphens.AreBare, Hyphens.bare, Hyphens.are_bare, Hyphens.no_number, OptionWords.mapped, Rows.option_built, Rows.HasValues, Rows.texts_are_in, RunWalk.run_rules, RunWalk.run_shape, RunWalk.between, RunWalk.Ends, RunWalk.follows, Settings.text_at, Settings.reads_all}
 
 -- what `clap` builds of `generate`, and of the whole
 abbrev generate_rules : List Rule

@@ -1,7 +1,6 @@
 -- The command that matches ask for, as their getters tell it.
 use Rattle.command_words.proofs.Common.{Generate, Label, Row, Text, asked_of, first_value, first_value-rows, none-some, number_to, rows_of, same_Some, subcommand_name_of, subcommand_rows_of, List, None, Option, Some, ap, ap₂, codes, option_and_then, option_map, sym, ◌∙◌, ◌≡◌}
-use Rattle.clap.specs.declared.parser.matches.ArgMatches.{ArgMatches}
-use Rattle.clap.specs.declared.parser.matches.Found.{Found}
+use Rattle.clap.specs.{declared.parser.matches.ArgMatches.ArgMatches, declared.parser.matches.Found.Found}
 
 -- the subcommand that was met, by its name and its rows
 pub record Met (matches : ArgMatches) (name : Text) (rows : List Row) : Type 0 where

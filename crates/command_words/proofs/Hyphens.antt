@@ -2,11 +2,9 @@
 use Rattle.std.proofs.Common.{rules, Bool, Err, List, None, Option, Some, [], ap, arith, bytes_eq, cond, false, ne_eqb, get_or, refl, replicate, sym, true, ℕ, ◌<◌, ◌==◌, ◌^◌, ◌∙◌, ◌∷◌, ◌≡◌}
 use Rattle.command_words.proofs.Common.{decimal, first_decimal, Label, label_named, label_word, labels_in, labels_named, long_of, none-some, number_to, onto_first, option_and_then_some, Rules, run_options, RunOption, RunOptions, Seed, seed_in, short_of, slice_split, strip_byte, Texts, value_or, Workers}
 use Rattle.std.specs.Result.{result_ok}
-use Rattle.hex.specs.Hex.{decode_pairs}
-use Rattle.hex.specs.declared.error.FromHexError.TheVariants.{OddLength, InvalidStringLength}
+use Rattle.hex.specs.{Hex.decode_pairs, declared.error.FromHexError.TheVariants.OddLength, declared.error.FromHexError.TheVariants.InvalidStringLength}
 use Rattle.policy_rules.specs.declared.narrowing.Label.TheVariants.{NoExport, NoCopy, NoEcb, Aes256}
-use Rattle.command_words.proofs.Numbers.{not_written}
-use Rattle.command_words.proofs.Settings.{text_at}
+use Rattle.command_words.proofs.{Numbers.not_written, Settings.text_at}
 
 -- a text that begins with no hyphen
 abbrev pub IsBare : List ℕ → Type 0

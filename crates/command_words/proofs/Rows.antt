@@ -1,9 +1,7 @@
 -- The rows that `clap` keeps of a run's options, and the values that these are.
 use Rattle.std.proofs.Common.{Bool, List, None, Option, Some, [], ap, append-nil, bytes_eq, cond, false, find, is_some, option_and_then, option_map, refl, slice_get, subst, sym, true, ℕ, ◌++◌, ◌||◌, ◌∙◌, ◌∷◌, ◌≡◌}
 use Rattle.command_words.proofs.Common.{Row, Rule, Rules, RunOption, Seed, Texts, Workers, all_of, at_row, filled, find-append, has_row, is_of, more_values, none-some, option_id, option_or, option_rule, texts_in, used, without}
-use Rattle.clap.specs.Walk.{first_of}
-use Rattle.clap.specs.declared.builder.value_parser.Reading.TheVariants.{AsWritten}
-use Rattle.clap.specs.declared.parser.matches.ValueSource.TheVariants.{CommandLine}
+use Rattle.clap.specs.{Walk.first_of, declared.builder.value_parser.Reading.TheVariants.AsWritten, declared.parser.matches.ValueSource.TheVariants.CommandLine}
 use Rattle.command_words.proofs.Settings.{text_at, put, put_at, same_option, or_none, unmapped}
 
 -- an option as `clap` builds it

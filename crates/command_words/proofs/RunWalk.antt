@@ -3,10 +3,7 @@ use Rattle.std.proofs.Common.{rules}
 use Rattle.command_words.proofs.Common.{Held, Row, Rule, Rules, RunOption, Seed, Shape, Texts, Waiting, Walk, Workers, after_words, arg_by_id, arg_by_long, idle, if_new, is_of, new_shape, none-some, option_id, option_in, reacted, same_Some, settle_passes, settled, turn_passes, use_passes, walk_passes, walked, with_option, Bool, List, None, Option, Some, [], bytes_eq, codes, false, fold, option_and_then, refl, subst, sym, true, ℕ, ◌∙◌, ◌∷◌, ◌≡◌}
 use Rattle.clap.specs.Walk.{option as for_option}
 use Rattle.command_words.specs.Reading.{settled_texts as settled_state}
-use Rattle.command_words.proofs.Hyphens.{IsBare, AreBare}
-use Rattle.command_words.proofs.OptionWords.{long_of_option, not_dashes}
-use Rattle.command_words.proofs.Rows.{option_built, HasValues, no_row, has_next, same_id}
-use Rattle.command_words.proofs.Settings.{text_at, put, put_at, same_option, is_of_itself, with_is}
+use Rattle.command_words.proofs.{Hyphens.IsBare, Hyphens.AreBare, OptionWords.long_of_option, OptionWords.not_dashes, Rows.option_built, Rows.HasValues, Rows.no_row, Rows.has_next, Rows.same_id, Settings.text_at, Settings.put, Settings.put_at, Settings.same_option, Settings.is_of_itself, Settings.with_is}
 
 -- what `clap` builds of `run`
 abbrev pub run_rules : List Rule

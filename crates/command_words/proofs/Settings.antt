@@ -1,11 +1,8 @@
 -- Options that are read one after another are those that the words give.
 use Rattle.std.proofs.Common.{Bool, List, None, Option, Some, [], add-one, ap, append-nil, append_assoc, arith, cond, count_by, drop, drop-cons, false, find, get_or, is_some, length, map, nat_le, refl, subst, sym, true, ℕ, ◌++◌, ◌+◌, ◌<◌, ◌∙◌, ◌∷◌, ◌≡◌, ◌≤◌}
 use Rattle.command_words.proofs.Common.{after_word, after_words, all_options, and_left, and_right, are_single, at_end, find-append, if_new, is_of, list_all, option_in, option_or, options_in, Rules, RunOption, Seed, Setting, settled_texts, State, state, Texts, texts_of, value_of, with_option, Workers}
-use Rattle.std.specs.Option.{option_map, option_and_then}
-use Rattle.std.specs.Borrow.{Bor}
-use Rattle.std.proofs.lemmas.List.{at_drop_all}
-use Rattle.std.proofs.lemmas.List.Sums.{sum_by-append}
-use Rattle.std.proofs.lemmas.Bool.Decides.{nat_tests}
+use Rattle.std.specs.{Option.option_map, Option.option_and_then, Borrow.Bor}
+use Rattle.std.proofs.{lemmas.List.at_drop_all, lemmas.List.Sums.sum_by-append, lemmas.Bool.Decides.nat_tests}
 use Rattle.command_words.specs.declared.options.Reading.{Reading}
 
 -- settings in front of others

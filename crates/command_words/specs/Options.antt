@@ -1,8 +1,6 @@
 -- The options of a run.
-use Rattle.std.specs.Prelude.{ℕ, Bool, List, [], ◌∷◌, Option, Some, None, ◌==◌, nat_le, if◌then◌else◌, codes, bytes_eq, find, count_by, option_map}
-use Rattle.std.specs.List.{list_any, list_all, before_first, after_first}
-use Rattle.command_words.specs.declared.options.RunOption.{RunOption}
-use Rattle.command_words.specs.declared.options.RunOption.TheVariants.{Workers, Seed, Rules}
+use Rattle.std.specs.{Prelude.ℕ, Prelude.Bool, Prelude.List, Prelude.[], Prelude.◌∷◌, Prelude.Option, Prelude.Some, Prelude.None, Prelude.◌==◌, Prelude.nat_le, Prelude.if◌then◌else◌, Prelude.codes, Prelude.bytes_eq, Prelude.find, Prelude.count_by, Prelude.option_map, List.list_any, List.list_all, List.before_first, List.after_first}
+use Rattle.command_words.specs.{declared.options.RunOption.RunOption, declared.options.RunOption.TheVariants.Workers, declared.options.RunOption.TheVariants.Seed, declared.options.RunOption.TheVariants.Rules}
 
 abbrev pub option_name : RunOption → List ℕ
 option_name Workers = codes "--workers"

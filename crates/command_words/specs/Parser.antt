@@ -1,18 +1,8 @@
 -- The command of `clap`, and what its matches ask for.
-use Rattle.std.specs.Prelude.{◌≡◌, List, Option, Some, None, IsSome, codes, bytes_eq, true, if◌then◌else◌}
-use Rattle.std.specs.Option.{option_map, option_and_then}
-use Rattle.clap.specs.Words.{App, Row, Rule, Text, first_of, kind_of, new_app, new_rule, subcommand_rows_of, with_rule, with_subcommand}
-use Rattle.clap.specs.Simple.{on_top}
-use Rattle.clap.specs.declared.error.Error.{Error}
-use Rattle.clap.specs.declared.error.kind.ErrorKind.TheVariants.{OutOfMemory}
-use Rattle.clap.specs.declared.parser.matches.ArgMatches.{ArgMatches}
+use Rattle.std.specs.{Prelude.◌≡◌, Prelude.List, Prelude.Option, Prelude.Some, Prelude.None, Prelude.IsSome, Prelude.codes, Prelude.bytes_eq, Prelude.true, Prelude.if◌then◌else◌, Option.option_map, Option.option_and_then}
+use Rattle.clap.specs.{Words.App, Words.Row, Words.Rule, Words.Text, Words.first_of, Words.kind_of, Words.new_app, Words.new_rule, Words.subcommand_rows_of, Words.with_rule, Words.with_subcommand, Simple.on_top, declared.error.Error.Error, declared.error.kind.ErrorKind.TheVariants.OutOfMemory, declared.parser.matches.ArgMatches.ArgMatches}
 use Rattle.policy_rules.specs.declared.narrowing.Label.{Label}
-use Rattle.command_words.specs.Options.{Texts}
-use Rattle.command_words.specs.Values.{number_to}
-use Rattle.command_words.specs.Words.{run_options, command_of}
-use Rattle.command_words.specs.declared.options.RunOption.{RunOption}
-use Rattle.command_words.specs.declared.options.RunOption.TheVariants.{Workers, Seed, Rules}
-use Rattle.command_words.specs.declared.command.Command.{Command}
+use Rattle.command_words.specs.{Options.Texts, Values.number_to, Words.run_options, Words.command_of, declared.options.RunOption.RunOption, declared.options.RunOption.TheVariants.Workers, declared.options.RunOption.TheVariants.Seed, declared.options.RunOption.TheVariants.Rules, declared.command.Command.Command}
 use Rattle.command_words.specs.declared.command.Command.TheVariants.{Run, Generate}
 
 -- an option's name without its hyphens, by which `clap` finds it

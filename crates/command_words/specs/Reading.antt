@@ -1,12 +1,6 @@
 -- What stands while the words of options are read, one after another.
-use Rattle.std.specs.Prelude.{ℕ, List, [], ◌∷◌, Option, Some, None}
-use Rattle.std.specs.Option.{option_map, option_and_then}
-use Rattle.std.specs.Borrow.{Bor}
-use Rattle.command_words.specs.Options.{option_in, Texts}
-use Rattle.command_words.specs.declared.options.RunOption.{RunOption}
-use Rattle.command_words.specs.declared.options.RunOption.TheVariants.{Workers, Seed, Rules}
-use Rattle.command_words.specs.declared.options.Settings.{Settings}
-use Rattle.command_words.specs.declared.options.Reading.{Reading}
+use Rattle.std.specs.{Prelude.ℕ, Prelude.List, Prelude.[], Prelude.◌∷◌, Prelude.Option, Prelude.Some, Prelude.None, Option.option_map, Option.option_and_then, Borrow.Bor}
+use Rattle.command_words.specs.{Options.option_in, Options.Texts, declared.options.RunOption.RunOption, declared.options.RunOption.TheVariants.Workers, declared.options.RunOption.TheVariants.Seed, declared.options.RunOption.TheVariants.Rules, declared.options.Settings.Settings, declared.options.Reading.Reading}
 
 -- a value where none stands yet
 abbrev pub if_new : {X : Type 0} → Option (List ℕ) → X → Option X

@@ -1,8 +1,5 @@
 -- The values of options.
-use Rattle.std.specs.Prelude.{ℕ, List, Option, Some, None, bytes_eq, find}
-use Rattle.std.specs.Fmt.{decimal}
-use Rattle.std.specs.List.{range_with_len}
-use Rattle.std.specs.Result.{result_ok}
+use Rattle.std.specs.{Prelude.ℕ, Prelude.List, Prelude.Option, Prelude.Some, Prelude.None, Prelude.bytes_eq, Prelude.find, Fmt.decimal, List.range_with_len, Result.result_ok}
 use Rattle.hex.specs.Hex.{decode_sized}
 
 -- the number, 1 to so many, that a text writes in decimal, without sign or leading zero

@@ -1,13 +1,8 @@
 -- The words of the command line.
-use Rattle.std.specs.Prelude.{ℕ, ◌≤◌, List, [], ◌∷◌, Option, Some, None, codes, bytes_eq, replicate, if◌then◌else◌}
-use Rattle.std.specs.Option.{option_map, option_and_then}
+use Rattle.std.specs.{Prelude.ℕ, Prelude.◌≤◌, Prelude.List, Prelude.[], Prelude.◌∷◌, Prelude.Option, Prelude.Some, Prelude.None, Prelude.codes, Prelude.bytes_eq, Prelude.replicate, Prelude.if◌then◌else◌, Option.option_map, Option.option_and_then}
 use Rattle.policy_rules.specs.declared.narrowing.Label.{Label}
 use Rattle.admission.specs.Words.{labels_in}
-use Rattle.command_words.specs.Options.{Texts, options_in, texts_of}
-use Rattle.command_words.specs.Values.{number_to, seed_in, value_or}
-use Rattle.command_words.specs.declared.command.Command.{Command}
-use Rattle.command_words.specs.declared.command.Command.TheVariants.{Run, Generate}
-use Rattle.command_words.specs.declared.command.RunOptions.{RunOptions}
+use Rattle.command_words.specs.{Options.Texts, Options.options_in, Options.texts_of, Values.number_to, Values.seed_in, Values.value_or, declared.command.Command.Command, declared.command.Command.TheVariants.Run, declared.command.Command.TheVariants.Generate, declared.command.RunOptions.RunOptions}
 
 infixl 10 ◌>>=◌
 abbrev pub ◌>>=◌ : {A B : Type 0} → Option A → (A → Option B) → Option B

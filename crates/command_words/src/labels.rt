@@ -1,9 +1,7 @@
 // The labels that a word of the command line names.
-ghost use Rattle.std.specs.Prelude.{◌≡◌, [], IfOk, is_some};
-ghost use Rattle.std.specs.Option.{option_map};
+ghost use Rattle.std.specs.{Prelude.◌≡◌, Prelude.[], Prelude.IfOk, Prelude.is_some, Option.option_map};
 ghost use Rattle.admission.specs.Words.{labels_in};
-ghost use Rattle.command_words.specs.Reading.{text};
-ghost use Rattle.command_words.specs.Values.{value_or};
+ghost use Rattle.command_words.specs.{Reading.text, Values.value_or};
 
 use crate::command::LabelList;
 use crate::rule_list::RuleList;

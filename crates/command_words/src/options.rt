@@ -1,8 +1,6 @@
 // The options of a run, as its words give them.
-ghost use Rattle.std.specs.Prelude.{◌≡◌, None, map, option_map};
-ghost use Rattle.std.specs.Option.{option_and_then};
-ghost use Rattle.command_words.specs.Options.{option_named, option_in, options_in, texts_of};
-ghost use Rattle.command_words.specs.Reading.{state, text, texts, with_option, after_word, at_end};
+ghost use Rattle.std.specs.{Prelude.◌≡◌, Prelude.None, Prelude.map, Prelude.option_map, Option.option_and_then};
+ghost use Rattle.command_words.specs.{Options.option_named, Options.option_in, Options.options_in, Options.texts_of, Reading.state, Reading.text, Reading.texts, Reading.with_option, Reading.after_word, Reading.at_end};
 
 /// An option of a run.
 #[derive(Clone, Copy, Drop)]

@@ -2,9 +2,7 @@
 ghost use Rattle.std.specs.Prelude.{◌≡◌, List, Some, false, IfOk, IfErr, IfSome, codes, map};
 ghost use Rattle.clap.specs.Words.{rule_of, app_of, found_of, rows_of, subcommand_rows_of};
 ghost use Rattle.policy_rules.specs.declared.narrowing.Label.{Label};
-ghost use Rattle.command_words.specs.Words.{IsInRange};
-ghost use Rattle.command_words.specs.Reading.{texts};
-ghost use Rattle.command_words.specs.Parser.{option_rule, program, texts_in, asked_of, AskFor, IsForMemory};
+ghost use Rattle.command_words.specs.{Words.IsInRange, Reading.texts, Parser.option_rule, Parser.program, Parser.texts_in, Parser.asked_of, Parser.AskFor, Parser.IsForMemory};
 
 use crate::command::Command;
 use crate::options::Settings;

@@ -1,8 +1,7 @@
 // The rules that a program has.
 ghost use Rattle.std.specs.Prelude.{◌≡◌, List, map, OnOk, OnErr, [], ◌∷◌, ◌++◌};
 ghost use Rattle.policy_rules.specs.declared.narrowing.Label.{Label};
-ghost use Rattle.admission.specs.Apply.{is_one_of, picked};
-ghost use Rattle.admission.specs.Words.{label_named, label_word};
+ghost use Rattle.admission.specs.{Apply.is_one_of, Apply.picked, Words.label_named, Words.label_word};
 
 use admission::Admission;
 use key_attributes::Attributes;

@@ -1,8 +1,6 @@
 // The values of options.
 ghost use Rattle.std.specs.Prelude.{◌≡◌, ◌≤◌, ◌<◌, ◌^◌, IfOk, IfSome, Some, option_map, is_some, replicate};
-ghost use Rattle.command_words.specs.Values.{number_to, seed_in, value_or};
-ghost use Rattle.command_words.specs.Words.{run_options};
-ghost use Rattle.command_words.specs.Reading.{text, texts};
+ghost use Rattle.command_words.specs.{Values.number_to, Values.seed_in, Values.value_or, Words.run_options, Reading.text, Reading.texts};
 
 use crate::command::RunOptions;
 use crate::labels::{are_labels_of, labels_of};

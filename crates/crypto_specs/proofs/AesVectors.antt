@@ -2,9 +2,7 @@
 
 -- sections 4.2 and 4.2.1
 use Rattle.std.proofs.Common.{List, [], ap, drop, refl, sym, ℕ, ◌∙◌, ◌∷◌, ◌≡◌}
-use Rattle.crypto_specs.proofs.CipherInverseLists.{tried_bytes}
-use Rattle.crypto_specs.proofs.CipherInverseKeys.{decryption_undoes}
-use Rattle.crypto_specs.proofs.Common.{aes_decrypt, aes_encrypt, affine_bits, expanded, gf_mul, inverse_from, key_schedule, power_of_x, rounds, sbox, sum_of_shifts, xtime}
+use Rattle.crypto_specs.proofs.{CipherInverseLists.tried_bytes, CipherInverseKeys.decryption_undoes, Common.aes_decrypt, Common.aes_encrypt, Common.affine_bits, Common.expanded, Common.gf_mul, Common.inverse_from, Common.key_schedule, Common.power_of_x, Common.rounds, Common.sbox, Common.sum_of_shifts, Common.xtime}
 
 product : gf_mul 0x57 0x83 ≡ 0xc1
 unfolding sum_of_shifts

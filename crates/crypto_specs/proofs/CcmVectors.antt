@@ -1,8 +1,6 @@
 -- CCM: examples of SP 800-38C, appendix C.
 use Rattle.std.proofs.Common.{List, [], ap, arith, refl, sym, ℕ, ◌∙◌, ◌∷◌, ◌≡◌}
-use Rattle.crypto_specs.proofs.Common.{aes_encrypt, blocks, ccm_counter_block, ccm_stream, ccm_tag, ccm_text, chained, control_block, encoded_data, encoded_length, formatted_blocks, power_of_x, sum_of_shifts}
-use Rattle.crypto_specs.proofs.Blocks.{length-aes_encrypt}
-use Rattle.crypto_specs.proofs.ModeLaws.{ccm_text_undoes_itself}
+use Rattle.crypto_specs.proofs.{Common.aes_encrypt, Common.blocks, Common.ccm_counter_block, Common.ccm_stream, Common.ccm_tag, Common.ccm_text, Common.chained, Common.control_block, Common.encoded_data, Common.encoded_length, Common.formatted_blocks, Common.power_of_x, Common.sum_of_shifts, Blocks.length-aes_encrypt, ModeLaws.ccm_text_undoes_itself}
 use Rattle.crypto_specs.proofs.TableAes.{by_table, rounds_by, expanded_by, schedule_by, encrypt_by, table_encrypt, encrypts_by_table}
 
 abbrev key : List ℕ

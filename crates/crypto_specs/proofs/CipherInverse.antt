@@ -1,9 +1,7 @@
 -- The inverse cipher undoes the cipher, and the other way round.
 use Rattle.std.proofs.Common.{List, [], ap, ap₂, arith, bit_xor, length, refl, suc, zero, ℕ, ◌%◌, ◌*◌, ◌+◌, ◌-◌, ◌<◌, ◌∙◌, ◌∷◌, ◌≡◌, ◌≤◌}
 use Rattle.crypto_specs.proofs.Common.{AreBytes, add_round_key, cipher, entry, gf_mul, inv_cipher, inv_mix_columns, inv_rounds, inv_sbox, inv_shift_rows, inv_sub_bytes, mix_columns, mixed, mixed_with, rounds, sbox, shift_rows, state_of, sub_bytes, xor_lt}
-use Rattle.crypto_specs.proofs.FieldLaws.{xor_twice, gf_mul-byte}
-use Rattle.crypto_specs.proofs.CipherInverseLists.{HasBytes, none_bytes, more_bytes, bytes_of_all}
-use Rattle.crypto_specs.proofs.CipherInverseBytes.{sbox-byte, inv_sbox-byte, inv_sbox_of_sbox, sbox_of_inv_sbox}
+use Rattle.crypto_specs.proofs.{FieldLaws.xor_twice, FieldLaws.gf_mul-byte, CipherInverseLists.HasBytes, CipherInverseLists.none_bytes, CipherInverseLists.more_bytes, CipherInverseLists.bytes_of_all, CipherInverseBytes.sbox-byte, CipherInverseBytes.inv_sbox-byte, CipherInverseBytes.inv_sbox_of_sbox, CipherInverseBytes.sbox_of_inv_sbox}
 use Rattle.crypto_specs.proofs.CipherInverseColumns.{IsInverse, unmixed, inv_mix_of_mix, mix_of_inv_mix}
 
 -- a list of 16 bytes

@@ -1,7 +1,6 @@
 -- The S-box and its inverse undo each other.
 use Rattle.std.proofs.Common.{Bool, ap, arith, eqb, false, refl, suc, true, zero, ℕ, ◌*◌, ◌+◌, ◌<◌, ◌^◌, ◌∙◌, ◌≡◌, ◌≤◌}
-use Rattle.crypto_specs.proofs.Common.{affine_bit, affine_bits, gf_inverse, gf_mul, inv_affine_bit, inv_affine_bits, inv_sbox, inverse_from, sbox, sum_of_shifts}
-use Rattle.crypto_specs.proofs.FieldLaws.{all_below, same_below}
+use Rattle.crypto_specs.proofs.{Common.affine_bit, Common.affine_bits, Common.gf_inverse, Common.gf_mul, Common.inv_affine_bit, Common.inv_affine_bits, Common.inv_sbox, Common.inverse_from, Common.sbox, Common.sum_of_shifts, FieldLaws.all_below, FieldLaws.same_below}
 
 inverse_test : all_below 256 (λ b. eqb (gf_inverse (gf_inverse b)) b) ≡ true
 unfolding all_below sum_of_shifts inverse_from

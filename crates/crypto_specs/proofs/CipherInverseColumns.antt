@@ -1,7 +1,6 @@
 -- The matrices of MixColumns and InvMixColumns undo each other on a column.
 use Rattle.std.proofs.Common.{ap, ap₂, bit_xor, refl, sym, ℕ, ◌<◌, ◌∙◌, ◌≡◌}
-use Rattle.crypto_specs.proofs.Common.{gf_mul, mixed, sum_of_shifts, xor_assoc, xor_comm, xor_lt, xor_zero_r}
-use Rattle.crypto_specs.proofs.FieldLaws.{all_below, same_below, xor_four, gf_mul-xor, gf_mul-byte}
+use Rattle.crypto_specs.proofs.{Common.gf_mul, Common.mixed, Common.sum_of_shifts, Common.xor_assoc, Common.xor_comm, Common.xor_lt, Common.xor_zero_r, FieldLaws.all_below, FieldLaws.same_below, FieldLaws.xor_four, FieldLaws.gf_mul-xor, FieldLaws.gf_mul-byte}
 
 abbrev pub sum_four : ℕ → ℕ → ℕ → ℕ → ℕ
 sum_four a b c d = bit_xor (bit_xor (bit_xor a b) c) d

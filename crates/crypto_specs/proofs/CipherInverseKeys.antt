@@ -1,8 +1,6 @@
 -- The bytes of a key schedule, and so the two ciphers of a key undo each other.
 use Rattle.std.proofs.Common.{Bool, List, [], ap, arith, bit_xor, cond, eqb, false, length, nat_lt, slice_index, suc, sym, true, zero, ℕ, ◌%◌, ◌&&◌, ◌*◌, ◌+◌, ◌-◌, ◌/◌, ◌<◌, ◌∷◌}
-use Rattle.crypto_specs.proofs.Common.{AreBytes, IsBlock, IsUndoneBy, aes_decrypt, aes_encrypt, expanded, key_schedule, next_word, power_of_x, rot_word, round_constant, round_count, schedule_core, sub_word, word_at, xor_lt, xor_words}
-use Rattle.crypto_specs.proofs.FieldLaws.{xtime-byte}
-use Rattle.crypto_specs.proofs.CipherInverseBytes.{sbox-byte}
+use Rattle.crypto_specs.proofs.{Common.AreBytes, Common.IsBlock, Common.IsUndoneBy, Common.aes_decrypt, Common.aes_encrypt, Common.expanded, Common.key_schedule, Common.next_word, Common.power_of_x, Common.rot_word, Common.round_constant, Common.round_count, Common.schedule_core, Common.sub_word, Common.word_at, Common.xor_lt, Common.xor_words, FieldLaws.xtime-byte, CipherInverseBytes.sbox-byte}
 use Rattle.crypto_specs.proofs.CipherInverseLists.{HasBytes, none_bytes, more_bytes, bytes_of_all, all_of_bytes, joined_bytes}
 use Rattle.crypto_specs.proofs.CipherInverse.{IsState, state_from, cipher_state, inv_cipher_state, inv_cipher_of_cipher, cipher_of_inv_cipher}
 

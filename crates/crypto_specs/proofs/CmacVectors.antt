@@ -1,7 +1,6 @@
 -- CMAC: the examples of SP 800-38B, appendix D.1, for AES-128.
 use Rattle.std.proofs.Common.{List, [], ap, refl, take, ℕ, ◌∙◌, ◌∷◌, ◌≡◌}
-use Rattle.crypto_specs.proofs.Common.{aes_encrypt, block_number, blocks, chained, cmac, last_block, number_block, power_of_x, subkey1, subkey2, sum_of_shifts}
-use Rattle.crypto_specs.proofs.TableAes.{by_table, rounds_by, expanded_by, schedule_by, encrypt_by, table_encrypt, encrypts_by_table}
+use Rattle.crypto_specs.proofs.{Common.aes_encrypt, Common.block_number, Common.blocks, Common.chained, Common.cmac, Common.last_block, Common.number_block, Common.power_of_x, Common.subkey1, Common.subkey2, Common.sum_of_shifts, TableAes.by_table, TableAes.rounds_by, TableAes.expanded_by, TableAes.schedule_by, TableAes.encrypt_by, TableAes.table_encrypt, TableAes.encrypts_by_table}
 
 abbrev key : List ℕ
 key = 0x2b ∷ 0x7e ∷ 0x15 ∷ 0x16 ∷ 0x28 ∷ 0xae ∷ 0xd2 ∷ 0xa6 ∷ 0xab ∷ 0xf7 ∷ 0x15 ∷ 0x88 ∷ 0x09 ∷ 0xcf ∷ 0x4f ∷ 0x3c ∷ []

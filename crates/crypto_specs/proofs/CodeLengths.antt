@@ -1,7 +1,6 @@
 -- The blocks of HKDF and PBKDF2 are as long as a digest.
 use Rattle.std.proofs.Common.{List, [], arith, length, suc, zero, ℕ, ◌++◌, ◌+◌, ◌∷◌, ◌≡◌, ◌≤◌}
-use Rattle.crypto_specs.proofs.Common.{chain, expand_block, fold, hmac, pbkdf2_block, to_be_bytes, w32, xor_all, xor_bytes}
-use Rattle.crypto_specs.proofs.XorBytes.{length-xor_bytes}
+use Rattle.crypto_specs.proofs.{Common.chain, Common.expand_block, Common.fold, Common.hmac, Common.pbkdf2_block, Common.to_be_bytes, Common.w32, Common.xor_all, Common.xor_bytes, XorBytes.length-xor_bytes}
 
 -- over any hash function of h bytes, with blocks of n
 module _ (hash : List ℕ → List ℕ) (h n : ℕ) (long : (m : List ℕ) → length (hash m) ≡ h) where

@@ -1,8 +1,7 @@
 -- The product of blocks in GHASH is linear in each factor.
 use Rattle.std.proofs.Common.{Bool, ap, ap₂, bit_xor, cond, eqb, refl, suc, zero, ℕ, ◌%◌, ◌/◌, ◌^◌, ◌∙◌, ◌≡◌}
-use Rattle.crypto_specs.proofs.Common.{bit_at, block_product, reduction, times_x, xor_shr}
+use Rattle.crypto_specs.proofs.{Common.bit_at, Common.block_product, Common.reduction, Common.times_x, Common.xor_shr, FieldLaws.chosen-xor, FieldLaws.cond-xor, FieldLaws.xor_four}
 use Rattle.crypto_specs.specs.Ghash.{sum_of_multiples}
-use Rattle.crypto_specs.proofs.FieldLaws.{chosen-xor, cond-xor, xor_four}
 
 -- ---- in the first factor
 

@@ -1,11 +1,7 @@
 -- ECB and CBC: decryption undoes encryption. CTR and the texts of CCM and GCM: xoring twice.
-use Rattle.std.proofs.Common.{List, [], ap, ap₂, arith, drop, length, map, refl, suc, sym, zero, ℕ, ◌%◌, ◌*◌, ◌++◌, ◌+◌, ◌-◌, ◌/◌, ◌<◌, ◌∙◌, ◌∷◌, ◌≡◌, ◌≤◌}
+use Rattle.std.proofs.{Common.List, Common.[], Common.ap, Common.ap₂, Common.arith, Common.drop, Common.length, Common.map, Common.refl, Common.suc, Common.sym, Common.zero, Common.ℕ, Common.◌%◌, Common.◌*◌, Common.◌++◌, Common.◌+◌, Common.◌-◌, Common.◌/◌, Common.◌<◌, Common.◌∙◌, Common.◌∷◌, Common.◌≡◌, Common.◌≤◌, lemmas.List.Elements.All-take, lemmas.List.Elements.All-drop}
 use Rattle.crypto_specs.proofs.Common.{AnyCuttingIsTheSame, AreBytes, block_count, blocks, cbc_blocks, cbc_decrypt, cbc_encrypt, cbc_plain_blocks, CbcDecryptionUndoesEncryption, ccm_counter_block, ccm_stream, ccm_text, CcmTextUndoesItself, counter_block, ctr_pieces, ctr_xor, CtrUndoesItself, drop_at, ecb_decrypt, ecb_encrypt, EcbDecryptionUndoesEncryption, gcm_stream, gcm_text, GcmTextUndoesItself, increased, initial_counter_block, IsBlock, IsUndoneBy, joined, KeepsLength, key_stream, length-append, length-drop, length-take, number_block, take_at, to_be_bytes, w64, xor_bytes, xor_stream}
-use Rattle.std.proofs.lemmas.List.Elements.{All-take, All-drop}
-use Rattle.crypto_specs.proofs.CipherInverseLists.{bytes_of_all, all_of_bytes, xored_bytes}
-use Rattle.crypto_specs.proofs.Blocks.{length-number_block, blocks_joined}
-use Rattle.crypto_specs.proofs.XorBytes.{length-xor_bytes, xor_bytes_twice}
-use Rattle.crypto_specs.proofs.KeyStream.{xor_stream_of_parts, length-blocks_of_stream, ctr_by_blocks}
+use Rattle.crypto_specs.proofs.{CipherInverseLists.bytes_of_all, CipherInverseLists.all_of_bytes, CipherInverseLists.xored_bytes, Blocks.length-number_block, Blocks.blocks_joined, XorBytes.length-xor_bytes, XorBytes.xor_bytes_twice, KeyStream.xor_stream_of_parts, KeyStream.length-blocks_of_stream, KeyStream.ctr_by_blocks}
 
 -- ---- blocks
 

@@ -1,10 +1,7 @@
 -- ECB, CBC and CTR: examples of SP 800-38A, appendix F, for AES-128. PKCS#7: RFC 5652, 6.3.
 use Rattle.std.proofs.Common.{List, None, Some, [], ap, refl, replicate, sym, take, ℕ, ◌++◌, ◌∙◌, ◌∷◌, ◌≡◌}
 use Rattle.crypto_specs.proofs.Common.{aes_decrypt, aes_encrypt, block_number, blocks, cbc_blocks, cbc_decrypt, cbc_encrypt, counter_block, ctr_xor, ecb_decrypt, ecb_encrypt, key_stream, number_block, pkcs7_padded, pkcs7_unpadded, power_of_x, sum_of_shifts}
-use Rattle.crypto_specs.proofs.CipherInverseLists.{tried_bytes}
-use Rattle.crypto_specs.proofs.CipherInverseKeys.{decryption_undoes}
-use Rattle.crypto_specs.proofs.ModeLaws.{ecb_decryption_undoes_encryption, cbc_decryption_undoes_encryption}
-use Rattle.crypto_specs.proofs.TableAes.{by_table, rounds_by, expanded_by, schedule_by, encrypt_by, table_encrypt, encrypts_by_table}
+use Rattle.crypto_specs.proofs.{CipherInverseLists.tried_bytes, CipherInverseKeys.decryption_undoes, ModeLaws.ecb_decryption_undoes_encryption, ModeLaws.cbc_decryption_undoes_encryption, TableAes.by_table, TableAes.rounds_by, TableAes.expanded_by, TableAes.schedule_by, TableAes.encrypt_by, TableAes.table_encrypt, TableAes.encrypts_by_table}
 
 abbrev key : List ℕ
 key = 0x2b ∷ 0x7e ∷ 0x15 ∷ 0x16 ∷ 0x28 ∷ 0xae ∷ 0xd2 ∷ 0xa6 ∷ 0xab ∷ 0xf7 ∷ 0x15 ∷ 0x88 ∷ 0x09 ∷ 0xcf ∷ 0x4f ∷ 0x3c ∷ []

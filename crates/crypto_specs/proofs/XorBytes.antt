@@ -1,7 +1,6 @@
 -- Laws of xor_bytes.
-use Rattle.std.proofs.Common.{List, [], ap, append_assoc, ap₂, arith, bit_xor, drop, length, min, refl, slice_index, slice_set, suc, sym, take, zero, ℕ, ◌*◌, ◌++◌, ◌+◌, ◌-◌, ◌<◌, ◌∙◌, ◌∷◌, ◌≡◌, ◌≤◌}
+use Rattle.std.proofs.{Common.List, Common.[], Common.ap, Common.append_assoc, Common.ap₂, Common.arith, Common.bit_xor, Common.drop, Common.length, Common.min, Common.refl, Common.slice_index, Common.slice_set, Common.suc, Common.sym, Common.take, Common.zero, Common.ℕ, Common.◌*◌, Common.◌++◌, Common.◌+◌, Common.◌-◌, Common.◌<◌, Common.◌∙◌, Common.◌∷◌, Common.◌≡◌, Common.◌≤◌, Math.Seq.take-add}
 use Rattle.crypto_specs.proofs.Common.{append-nil, drop-drop, drop_all, drop_at, drop_min, length-drop, length-take, take_all, take_at, take_min, xor_assoc, xor_bytes, xor_self, xor_zero_r}
-use Rattle.std.proofs.Math.Seq.{take-add}
 use borrow.Rule.Slice.PartMut.{put_mid}
 
 -- one more byte xored in place

@@ -1,9 +1,7 @@
 -- AES (FIPS 197). A state is the list of its 16 bytes, column by column: row r of column c is at
 -- place r + 4 * c (3.4). Section numbers are the standard's.
 use Rattle.std.specs.Prelude.{ℕ, zero, suc, ◌+◌, ◌-◌, ◌*◌, ◌%◌, ◌≡◌, ◌⊎◌, bit_xor, List, [], ◌∷◌, slice_index, length}
-use Rattle.crypto_specs.specs.Field.{gf_mul}
-use Rattle.crypto_specs.specs.Sbox.{sbox}
-use Rattle.crypto_specs.specs.KeyExpansion.{key_schedule, round_count}
+use Rattle.crypto_specs.specs.{Field.gf_mul, Sbox.sbox, KeyExpansion.key_schedule, KeyExpansion.round_count}
 
 -- the state with f r c in row r of column c
 abbrev pub state_of : (ℕ → ℕ → ℕ) → List ℕ

@@ -1,8 +1,6 @@
 -- The inverse cipher of AES (FIPS 197, 5.3).
 use Rattle.std.specs.Prelude.{ℕ, zero, suc, ◌+◌, ◌-◌, ◌%◌, List}
-use Rattle.crypto_specs.specs.Sbox.{inv_sbox}
-use Rattle.crypto_specs.specs.KeyExpansion.{key_schedule, round_count}
-use Rattle.crypto_specs.specs.Aes.{state_of, entry, mixed_with, add_round_key}
+use Rattle.crypto_specs.specs.{Sbox.inv_sbox, KeyExpansion.key_schedule, KeyExpansion.round_count, Aes.state_of, Aes.entry, Aes.mixed_with, Aes.add_round_key}
 
 -- InvShiftRows (5.3.1)
 abbrev pub inv_shift_rows : List ℕ → List ℕ

@@ -1,10 +1,7 @@
 -- CCM (SP 800-38C) over any block cipher e, with the formats of its appendix A. A nonce has 7 to 13
 -- bytes, a tag t of 4, 6, .., 16, and the associated data has fewer than 2 ^ 32.
-use Rattle.std.specs.Prelude.{ℕ, zero, suc, ◌+◌, ◌-◌, ◌*◌, ◌/◌, cond, nat_lt, eqb, List, [], ◌∷◌, ◌++◌, length, take, drop}
-use Rattle.std.specs.Int.{w16, w32, w64, to_be_bytes}
-use Rattle.crypto_specs.specs.Bytes.{xor_bytes, zero_filled}
-use Rattle.crypto_specs.specs.Modes.{blocks, block_count}
-use Rattle.crypto_specs.specs.Cmac.{chained}
+use Rattle.std.specs.{Prelude.ℕ, Prelude.zero, Prelude.suc, Prelude.◌+◌, Prelude.◌-◌, Prelude.◌*◌, Prelude.◌/◌, Prelude.cond, Prelude.nat_lt, Prelude.eqb, Prelude.List, Prelude.[], Prelude.◌∷◌, Prelude.◌++◌, Prelude.length, Prelude.take, Prelude.drop, Int.w16, Int.w32, Int.w64, Int.to_be_bytes}
+use Rattle.crypto_specs.specs.{Bytes.xor_bytes, Bytes.zero_filled, Modes.blocks, Modes.block_count, Cmac.chained}
 
 -- q, the bytes of the payload's length and of a counter (A.1)
 abbrev pub length_bytes : List ℕ → ℕ

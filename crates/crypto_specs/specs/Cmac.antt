@@ -1,8 +1,6 @@
 -- CMAC (SP 800-38B) over any block cipher e.
-use Rattle.std.specs.Prelude.{ℕ, ◌-◌, ◌*◌, ◌%◌, ◌^◌, max, cond, nat_lt, eqb, bit_xor, List, [], ◌∷◌, ◌++◌, length, drop, replicate}
-use Rattle.std.specs.List.{fold}
-use Rattle.crypto_specs.specs.Bytes.{xor_bytes}
-use Rattle.crypto_specs.specs.Modes.{blocks, block_count, block_number, number_block}
+use Rattle.std.specs.{Prelude.ℕ, Prelude.◌-◌, Prelude.◌*◌, Prelude.◌%◌, Prelude.◌^◌, Prelude.max, Prelude.cond, Prelude.nat_lt, Prelude.eqb, Prelude.bit_xor, Prelude.List, Prelude.[], Prelude.◌∷◌, Prelude.◌++◌, Prelude.length, Prelude.drop, Prelude.replicate, List.fold}
+use Rattle.crypto_specs.specs.{Bytes.xor_bytes, Modes.blocks, Modes.block_count, Modes.block_number, Modes.number_block}
 
 -- a block as a number, shifted left by one bit; where its first bit is 1, R_128 is added (6.1)
 abbrev pub doubled : ℕ → ℕ

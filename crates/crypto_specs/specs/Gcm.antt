@@ -1,8 +1,6 @@
 -- GCM (SP 800-38D) over any block cipher e. Steps are those of 7.1.
 use Rattle.std.specs.Prelude.{ℕ, zero, suc, ◌+◌, ◌*◌, ◌/◌, ◌%◌, ◌^◌, cond, eqb, [], ◌∷◌, ◌++◌, length, take, map, List}
-use Rattle.crypto_specs.specs.Bytes.{xor_bytes}
-use Rattle.crypto_specs.specs.Modes.{blocks, block_count, block_number, number_block}
-use Rattle.crypto_specs.specs.Ghash.{ghash_from}
+use Rattle.crypto_specs.specs.{Bytes.xor_bytes, Modes.blocks, Modes.block_count, Modes.block_number, Modes.number_block, Ghash.ghash_from}
 
 -- the blocks of bytes as numbers, zeros being added to the last one: a byte past a list's end reads as 0
 unfoldable pub numbers_of : List ℕ → List ℕ

@@ -1,7 +1,6 @@
 -- The key schedule of AES (FIPS 197, 5.2), as the list of its bytes, four to a word.
 use Rattle.std.specs.Prelude.{ℕ, zero, suc, ◌+◌, ◌-◌, ◌*◌, ◌/◌, ◌%◌, cond, nat_lt, eqb, ◌&&◌, bit_xor, List, [], ◌∷◌, ◌++◌, slice_index, length}
-use Rattle.crypto_specs.specs.Field.{xtime}
-use Rattle.crypto_specs.specs.Sbox.{sbox}
+use Rattle.crypto_specs.specs.{Field.xtime, Sbox.sbox}
 
 -- word i of a schedule
 abbrev pub word_at : List ℕ → ℕ → List ℕ

@@ -1,14 +1,6 @@
 -- Laws of the definitions, each on a function of src/lib.rt.
-use Rattle.std.specs.Prelude.{ℕ, ◌+◌, ◌%◌, ◌<◌, ◌≤◌, ◌≡◌, List, [], length, Some, bit_xor}
-use Rattle.std.specs.List.{All}
-use Rattle.crypto_specs.specs.Aes.{aes_encrypt}
-use Rattle.crypto_specs.specs.AesInverse.{aes_decrypt}
-use Rattle.crypto_specs.specs.Modes.{ecb_encrypt, ecb_decrypt, cbc_encrypt, cbc_decrypt, ctr_xor, ctr_pieces, joined, pkcs7_padded, pkcs7_unpadded}
-use Rattle.crypto_specs.specs.Ccm.{ccm_text}
-use Rattle.crypto_specs.specs.Ghash.{block_product}
-use Rattle.crypto_specs.specs.Gcm.{gcm_text}
-use Rattle.crypto_specs.specs.Hmac.{hmac}
-use Rattle.crypto_specs.specs.Hkdf.{hash_length, extract}
+use Rattle.std.specs.{Prelude.ℕ, Prelude.◌+◌, Prelude.◌%◌, Prelude.◌<◌, Prelude.◌≤◌, Prelude.◌≡◌, Prelude.List, Prelude.[], Prelude.length, Prelude.Some, Prelude.bit_xor, List.All}
+use Rattle.crypto_specs.specs.{Aes.aes_encrypt, AesInverse.aes_decrypt, Modes.ecb_encrypt, Modes.ecb_decrypt, Modes.cbc_encrypt, Modes.cbc_decrypt, Modes.ctr_xor, Modes.ctr_pieces, Modes.joined, Modes.pkcs7_padded, Modes.pkcs7_unpadded, Ccm.ccm_text, Ghash.block_product, Gcm.gcm_text, Hmac.hmac, Hkdf.hash_length, Hkdf.extract}
 
 -- a list of bytes
 abbrev pub AreBytes : List ℕ → Type 0

@@ -1,7 +1,6 @@
 -- Modes of operation (SP 800-38A) of a block cipher, a function e from a block to a block: lists of 16 bytes.
 use Rattle.std.specs.Prelude.{ℕ, zero, suc, ◌+◌, ◌-◌, ◌/◌, ◌%◌, ◌^◌, List, [], ◌∷◌, ◌++◌, length, take, drop, replicate, map, bit_xor, slice_index, cond, nat_le, ◌&&◌, bytes_eq, Some, None, Option}
-use Rattle.std.specs.List.{flat_map}
-use Rattle.std.specs.Int.{w128, from_be_bytes, to_be_bytes}
+use Rattle.std.specs.{List.flat_map, Int.w128, Int.from_be_bytes, Int.to_be_bytes}
 use Rattle.crypto_specs.specs.Bytes.{xor_bytes}
 
 -- how many blocks cover n bytes

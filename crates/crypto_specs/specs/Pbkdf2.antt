@@ -1,10 +1,6 @@
 -- PBKDF2 (RFC 8018, 5.2) with HMAC over any hash function, whose blocks have n bytes.
-use Rattle.std.specs.Prelude.{ℕ, zero, suc, ◌+◌, ◌-◌, ◌/◌, List, [], ◌∷◌, ◌++◌, take}
-use Rattle.std.specs.List.{fold}
-use Rattle.std.specs.Int.{w32, to_be_bytes}
-use Rattle.crypto_specs.specs.Bytes.{xor_bytes}
-use Rattle.crypto_specs.specs.Hmac.{hmac}
-use Rattle.crypto_specs.specs.Hkdf.{hash_length}
+use Rattle.std.specs.{Prelude.ℕ, Prelude.zero, Prelude.suc, Prelude.◌+◌, Prelude.◌-◌, Prelude.◌/◌, Prelude.List, Prelude.[], Prelude.◌∷◌, Prelude.◌++◌, Prelude.take, List.fold, Int.w32, Int.to_be_bytes}
+use Rattle.crypto_specs.specs.{Bytes.xor_bytes, Hmac.hmac, Hkdf.hash_length}
 
 -- u and what follows it, c in all: each is the code of the one before under the password
 unfoldable pub chain : (List ℕ → List ℕ) → ℕ → List ℕ → List ℕ → ℕ → List (List ℕ)

@@ -1,6 +1,5 @@
 -- The S-box of AES (FIPS 197) and its inverse. Section numbers are the standard's.
-use Rattle.std.specs.Prelude.{ℕ, zero, suc, ◌+◌, ◌*◌, ◌%◌, ◌^◌}
-use Rattle.std.specs.Int.{bit_at}
+use Rattle.std.specs.{Prelude.ℕ, Prelude.zero, Prelude.suc, Prelude.◌+◌, Prelude.◌*◌, Prelude.◌%◌, Prelude.◌^◌, Int.bit_at}
 use Rattle.crypto_specs.specs.Field.{gf_inverse}
 
 -- bit i of the affine map of b (5.1.1)

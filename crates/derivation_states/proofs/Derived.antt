@@ -1,10 +1,8 @@
 -- The bytes of a derivation, block by block.
-use Rattle.std.proofs.Common.{List, [], add-one, ap, ap₂, arith, drop, inl, inr, length, refl, suc, sym, take, zero, ℕ, ◌*◌, ◌++◌, ◌+◌, ◌-◌, ◌/◌, ◌∙◌, ◌≡◌, ◌≤◌}
+use Rattle.std.proofs.{Common.List, Common.[], Common.add-one, Common.ap, Common.ap₂, Common.arith, Common.drop, Common.inl, Common.inr, Common.length, Common.refl, Common.suc, Common.sym, Common.take, Common.zero, Common.ℕ, Common.◌*◌, Common.◌++◌, Common.◌+◌, Common.◌-◌, Common.◌/◌, Common.◌∙◌, Common.◌≡◌, Common.◌≤◌, lemmas.Nat.le-div}
 use Rattle.derivation_states.proofs.Common.{block_at, bytes_or_empty, cases_Bool, cond-false, cond-true, DerivationWork, derived, div-mul-le_self, drop-append-le, expand, expand_blocks, hash_length, is_hkdf, length-drop, length-take, mul-suc, next_derived, number_or_zero, pbkdf2, pbkdf2_blocks, take-append-drop, without, work_block_length, work_hash}
-use Rattle.std.proofs.lemmas.Nat.{le-div}
 use Rattle.multipart.specs.Dues.{DueGrows}
-use Rattle.derivation_states.proofs.Joined.{joined, joined_is, front_begins, length-joined, front, piece}
-use Rattle.derivation_states.proofs.Blocks.{HasBlocks, block_of_hkdf, block_of_pbkdf2, by_hkdf, by_pbkdf2, length-block_at, prk_of}
+use Rattle.derivation_states.proofs.{Joined.joined, Joined.joined_is, Joined.front_begins, Joined.length-joined, Joined.front, Joined.piece, Blocks.HasBlocks, Blocks.block_of_hkdf, Blocks.block_of_pbkdf2, Blocks.by_hkdf, Blocks.by_pbkdf2, Blocks.length-block_at, Blocks.prk_of}
 
 -- the least number of blocks that have n bytes
 abbrev block_count : ℕ → ℕ → ℕ

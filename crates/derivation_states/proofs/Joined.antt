@@ -1,7 +1,6 @@
 -- Blocks joined, of one length and of any.
-use Rattle.std.proofs.Common.{List, [], ap, append_assoc, ap₂, arith, drop, length, min, suc, sym, take, zero, ℕ, ◌*◌, ◌++◌, ◌+◌, ◌∙◌, ◌≡◌, ◌≤◌}
+use Rattle.std.proofs.{Common.List, Common.[], Common.ap, Common.append_assoc, Common.ap₂, Common.arith, Common.drop, Common.length, Common.min, Common.suc, Common.sym, Common.take, Common.zero, Common.ℕ, Common.◌*◌, Common.◌++◌, Common.◌+◌, Common.◌∙◌, Common.◌≡◌, Common.◌≤◌, Math.Seq.drop-append-add}
 use Rattle.derivation_states.proofs.Common.{append-nil, drop-take, length-append, length-take, mul-suc, take-append-le, take-take, take_min}
-use Rattle.std.proofs.Math.Seq.{drop-append-add}
 
 -- the blocks 1 to m
 abbrev pub joined : (ℕ → List ℕ) → ℕ → List ℕ

@@ -1,11 +1,9 @@
 -- The current block's next byte.
 use Rattle.std.proofs.Common.{List, None, Option, Some, [], ap, ap₂, arith, drop, is_some, length, refl, suc, sym, take, true, zero, ℕ, ◌*◌, ◌++◌, ◌+◌, ◌-◌, ◌<◌, ◌∙◌, ◌≡◌, ◌≤◌}
 use Rattle.derivation_states.proofs.Common.{block_at, DerivationWork, digest_length, ForSome, drop-take, take-take, HasSecret, HoldsInputs, Inputs, IsRunning, KeyDerivation, mul-suc, NamesDerivation, next_derived, nil_from_length, number_or_zero, OutputState, without}
-use Rattle.hash_ops.specs.declared.Hash.{Hash}
-use Rattle.hash_ops.specs.declared.Hash.TheVariants.{Sha224}
+use Rattle.hash_ops.specs.{declared.Hash.Hash, declared.Hash.TheVariants.Sha224}
 use Rattle.hash_ops.proofs.Digests.{length-hash_of}
-use Rattle.derivation_states.proofs.Blocks.{HasBlocks}
-use Rattle.derivation_states.proofs.Derived.{next_piece, next_derived_add, length-next_derived}
+use Rattle.derivation_states.proofs.{Blocks.HasBlocks, Derived.next_piece, Derived.next_derived_add, Derived.length-next_derived}
 
 some_digest : (which : Hash) → 1 ≤ digest_length which
 some_digest Sha224 = omega arith

@@ -1,11 +1,8 @@
 -- What the inputs of a derivation stand for.
-use Rattle.std.specs.Prelude.{◌≡◌, ℕ, true, false, List, [], Option, Some, None, is_some, if◌then◌else◌, ◌==◌}
-use Rattle.std.specs.Option.{option_map}
+use Rattle.std.specs.{Prelude.◌≡◌, Prelude.ℕ, Prelude.true, Prelude.false, Prelude.List, Prelude.[], Prelude.Option, Prelude.Some, Prelude.None, Prelude.is_some, Prelude.if◌then◌else◌, Prelude.◌==◌, Option.option_map}
 use Rattle.secret_bytes.specs.Buffer.{IsClear, bytes_of}
 use Rattle.store_model.specs.Prelude.{bytes_or_empty, DerivationWork, is_hkdf, salt_step}
-use Rattle.derivation_states.specs.Streams.{hmac_key}
-use Rattle.derivation_states.specs.declared.input.Input.{Input}
-use Rattle.derivation_states.specs.declared.inputs.Inputs.{Inputs}
+use Rattle.derivation_states.specs.{Streams.hmac_key, declared.input.Input.Input, declared.inputs.Inputs.Inputs}
 
 -- the bytes of an input, once it was given
 abbrev pub given_bytes : Input → Option (List ℕ)

@@ -2,11 +2,8 @@
 use Rattle.std.specs.Prelude.{ℕ, nat_lt, List, [], ◌∷◌, ◌++◌, Option, Some}
 use Rattle.key_attributes.specs.declared.Attributes.{Attributes}
 use Rattle.alg_encoding.specs.declared.table.Class.TheVariants.{Derivation}
-use Rattle.psa_status.specs.declared.Status.{Status}
-use Rattle.psa_status.specs.declared.Status.TheVariants.{BadState, InsufficientData}
-use Rattle.psa_status.specs.Rows.{first_row}
-use Rattle.store_model.specs.Prelude.{class_rows, given, done, Operation, Active, After, goes_on, set_up, unless_failed, DerivationWork, derivation_work, key_step_rows, next_derived, output_key_rows, taken_from, with_key}
-use Rattle.store_model.specs.DerivationOperations.{stated_bytes}
+use Rattle.psa_status.specs.{declared.Status.Status, declared.Status.TheVariants.BadState, declared.Status.TheVariants.InsufficientData, Rows.first_row}
+use Rattle.store_model.specs.{Prelude.class_rows, Prelude.given, Prelude.done, Prelude.Operation, Prelude.Active, Prelude.After, Prelude.goes_on, Prelude.set_up, Prelude.unless_failed, Prelude.DerivationWork, Prelude.derivation_work, Prelude.key_step_rows, Prelude.next_derived, Prelude.output_key_rows, Prelude.taken_from, Prelude.with_key, DerivationOperations.stated_bytes}
 
 -- kdf_setup
 abbrev pub derivation_setup : Operation DerivationWork → ℕ → After DerivationWork

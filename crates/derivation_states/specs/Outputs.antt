@@ -2,11 +2,8 @@
 use Rattle.std.specs.Prelude.{◌≡◌, ◌+◌, ◌*◌, ◌-◌, ◌≤◌, ℕ, List, false, true, is_some, drop, take, replicate}
 use Rattle.hash_ops.specs.Hashes.{digest_length}
 use Rattle.store_model.specs.Prelude.{DerivationWork}
-use Rattle.derivation_states.specs.Streams.{block_at}
+use Rattle.derivation_states.specs.{Streams.block_at, Inputs.HoldsInputs, declared.inputs.Inputs.Inputs, declared.output.OutputState.OutputState}
 use Rattle.key_policy.specs.Names.{NamesDerivation}
-use Rattle.derivation_states.specs.Inputs.{HoldsInputs}
-use Rattle.derivation_states.specs.declared.inputs.Inputs.{Inputs}
-use Rattle.derivation_states.specs.declared.output.OutputState.{OutputState}
 
 pub record IsClearOutput (o : OutputState) : Type 0 where
   pub capacity : o.capacity ≡ 0

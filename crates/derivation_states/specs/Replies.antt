@@ -1,7 +1,6 @@
 -- What the calls of a derivation answer, as replies of the model.
 use Rattle.std.specs.Prelude.{◌≡◌, ℕ, min, List, length, take, drop, Result, Ok, Err}
-use Rattle.psa_status.specs.declared.Status.{Status}
-use Rattle.psa_status.specs.declared.Status.TheVariants.{Success}
+use Rattle.psa_status.specs.{declared.Status.Status, declared.Status.TheVariants.Success}
 use Rattle.store_model.specs.Prelude.{Reply, output_bytes, refusal}
 
 -- a call that gives the bytes of a key, of which so many at most are written to the front of the buffer; a refusal

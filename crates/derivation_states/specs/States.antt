@@ -1,10 +1,7 @@
 -- What the state of a derivation stands for.
 use Rattle.multipart.specs.States.{StandsForOperation}
 use Rattle.store_model.specs.Prelude.{Operation, DerivationWork}
-use Rattle.derivation_states.specs.Inputs.{IsClearInputs, HoldsInputs}
-use Rattle.derivation_states.specs.Outputs.{IsClearOutput, HoldsOutput}
-use Rattle.derivation_states.specs.declared.derivation.RunningDerivation.{RunningDerivation}
-use Rattle.derivation_states.specs.declared.DerivationState.{DerivationState}
+use Rattle.derivation_states.specs.{Inputs.IsClearInputs, Inputs.HoldsInputs, Outputs.IsClearOutput, Outputs.HoldsOutput, declared.derivation.RunningDerivation.RunningDerivation, declared.DerivationState.DerivationState}
 
 -- no input was given, and all buffers are zeros
 pub record IsClearRunningDerivation (s : RunningDerivation) : Type 0 where

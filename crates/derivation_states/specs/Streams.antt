@@ -1,8 +1,7 @@
 -- What a derivation computes, block by block.
 use Rattle.std.specs.Prelude.{ℕ, zero, suc, List, [], if◌then◌else◌}
 use Rattle.crypto_specs.specs.Prelude.{extract, expand_block, pbkdf2_block}
-use Rattle.store_model.specs.Prelude.{digest, hash_block_length, low_byte, bytes_or_empty, DerivationWork, is_hkdf}
-use Rattle.store_model.specs.DerivationOperations.{number_or_zero}
+use Rattle.store_model.specs.{Prelude.digest, Prelude.hash_block_length, Prelude.low_byte, Prelude.bytes_or_empty, Prelude.DerivationWork, Prelude.is_hkdf, DerivationOperations.number_or_zero}
 
 abbrev pub work_hash : DerivationWork → List ℕ → List ℕ
 work_hash w = digest (low_byte w.alg)

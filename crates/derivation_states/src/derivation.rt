@@ -1,12 +1,8 @@
 // What a derivation runs.
-ghost use Rattle.std.specs.Prelude.{◌≡◌, ◌≤◌, ◌++◌, ◌∷◌, [], false, true, nat_lt, is_some, bytes_eq, Some, IfOk, OnOk, length};
-ghost use Rattle.std.specs.Result.{result_err};
-ghost use Rattle.psa_status.specs.declared.Status.TheVariants.{InsufficientData};
-ghost use Rattle.psa_status.specs.Rows.{first_row, unless};
-ghost use Rattle.store_model.specs.DerivationOperations.{stated_bytes};
-ghost use Rattle.store_model.specs.Prelude.{DerivationWork, Reply, buffer_after, compared, derivation_step, given, input_bytes_rows, input_integer_rows, key_step_rows, next_derived, output_key_rows, output_rows, taken_from, with_bytes, with_key};
-ghost use Rattle.service_calls.specs.Answers.{AnswersLength, plain_reply};
-ghost use Rattle.service_calls.specs.Meanings.{model_derivation_step};
+ghost use Rattle.std.specs.{Prelude.◌≡◌, Prelude.◌≤◌, Prelude.◌++◌, Prelude.◌∷◌, Prelude.[], Prelude.false, Prelude.true, Prelude.nat_lt, Prelude.is_some, Prelude.bytes_eq, Prelude.Some, Prelude.IfOk, Prelude.OnOk, Prelude.length, Result.result_err};
+ghost use Rattle.psa_status.specs.{declared.Status.TheVariants.InsufficientData, Rows.first_row, Rows.unless};
+ghost use Rattle.store_model.specs.{DerivationOperations.stated_bytes, Prelude.DerivationWork, Prelude.Reply, Prelude.buffer_after, Prelude.compared, Prelude.derivation_step, Prelude.given, Prelude.input_bytes_rows, Prelude.input_integer_rows, Prelude.key_step_rows, Prelude.next_derived, Prelude.output_key_rows, Prelude.output_rows, Prelude.taken_from, Prelude.with_bytes, Prelude.with_key};
+ghost use Rattle.service_calls.specs.{Answers.AnswersLength, Answers.plain_reply, Meanings.model_derivation_step};
 ghost use Rattle.multipart.specs.Phases.{LeadsTo};
 ghost use Rattle.multipart.specs.declared.Phase.TheVariants as phase;
 ghost use Rattle.derivation_states.specs.States.{HoldsRunning, IsClearRunningDerivation};

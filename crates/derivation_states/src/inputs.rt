@@ -1,8 +1,6 @@
 // The inputs of a derivation.
 
-ghost use Rattle.std.specs.Prelude.{◌≡◌, ◌≤◌, ◌+◌, ◌==◌, ℕ, not, IfOk, OnOk, true, false, is_some, length};
-ghost use Rattle.std.specs.Option.{ForSome};
-ghost use Rattle.std.specs.Result.{result_err};
+ghost use Rattle.std.specs.{Prelude.◌≡◌, Prelude.◌≤◌, Prelude.◌+◌, Prelude.◌==◌, Prelude.ℕ, Prelude.not, Prelude.IfOk, Prelude.OnOk, Prelude.true, Prelude.false, Prelude.is_some, Prelude.length, Option.ForSome, Result.result_err};
 ghost use Rattle.psa_status.specs.Rows.{first_row, unless};
 ghost use Rattle.store_model.specs.Prelude.{DerivationWork, input_bytes_rows, input_integer_rows, is_due, is_salt_due, is_secret_due, key_step, key_step_rows, takes_bytes, with_bytes, with_key};
 ghost use Rattle.key_policy.specs.Names.{NamesDerivation};

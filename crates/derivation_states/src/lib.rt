@@ -9,12 +9,9 @@
 
 ghost use Rattle.std.specs.Prelude.{◌≡◌, ◌≤◌, ◌+◌, ◌/◌, false, min, IfOk, length};
 ghost use Rattle.store_model.specs.Prelude.{Operation, Inactive, InError, is_inactive, DerivationWork, derivation_step, derived, refusal};
-ghost use Rattle.service_calls.specs.Answers.{plain_reply};
-ghost use Rattle.service_calls.specs.Meanings.{model_derivation_step};
-ghost use Rattle.multipart.specs.Dues.{DueGrows};
-ghost use Rattle.multipart.specs.Turns.{is_active, loses_key, on_active};
-ghost use Rattle.derivation_states.specs.Replies.{AnswersFront};
-ghost use Rattle.derivation_states.specs.States.{IsClearDerivation, IsDerivationOperation};
+ghost use Rattle.service_calls.specs.{Answers.plain_reply, Meanings.model_derivation_step};
+ghost use Rattle.multipart.specs.{Dues.DueGrows, Turns.is_active, Turns.loses_key, Turns.on_active};
+ghost use Rattle.derivation_states.specs.{Replies.AnswersFront, States.IsClearDerivation, States.IsDerivationOperation};
 
 use alg_encoding::Alg;
 use derivation::RunningDerivation;

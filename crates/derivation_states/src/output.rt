@@ -7,9 +7,8 @@ ghost use Rattle.store_model.specs.Prelude.{DerivationWork, SetCapacity, derivat
 ghost use Rattle.service_calls.specs.Answers.{plain_reply};
 ghost use Rattle.multipart.specs.Phases.{LeadsTo};
 ghost use Rattle.multipart.specs.declared.Phase.TheVariants as phase;
-ghost use Rattle.derivation_states.specs.Inputs.{HoldsInputs};
+ghost use Rattle.derivation_states.specs.{Inputs.HoldsInputs, Streams.block_at};
 ghost use Rattle.key_policy.specs.Names.{NamesDerivation, block_limit};
-ghost use Rattle.derivation_states.specs.Streams.{block_at};
 
 use crate::KEY_ROOM;
 use crate::inputs::Inputs;

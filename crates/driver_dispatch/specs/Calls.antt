@@ -1,7 +1,5 @@
 -- What the calls on a driver ask and leave. A map is none where the driver doesn't tell it.
-use Rattle.std.specs.Prelude.{◌≡◌, ◌==◌, ℕ, Bool, List, ◌⊎◌, ⊤, Option, None, Some, Result, MatchResult, find}
-use Rattle.std.specs.List.{list_any}
-use Rattle.std.specs.Option.{option_map, option_map_or}
+use Rattle.std.specs.{Prelude.◌≡◌, Prelude.◌==◌, Prelude.ℕ, Prelude.Bool, Prelude.List, Prelude.◌⊎◌, Prelude.⊤, Prelude.Option, Prelude.None, Prelude.Some, Prelude.Result, Prelude.MatchResult, Prelude.find, List.list_any, Option.option_map, Option.option_map_or}
 use Rattle.psa_status.specs.Causes.{one_more}
 use Rattle.alg_encoding.specs.declared.table.Class.TheVariants as class
 use Rattle.alg_encoding.specs.Encoding.{class_of, IsConcrete}

@@ -1,12 +1,10 @@
 // What the store asks of its devices.
-ghost use Rattle.std.specs.Prelude.{◌≡◌, ◌%◌, ◌==◌, ◌<◌, ℕ, List, ⊤, Option, Some, OnOk, IsTrue, length, map};
-ghost use Rattle.std.specs.List.{position_or_len};
+ghost use Rattle.std.specs.{Prelude.◌≡◌, Prelude.◌%◌, Prelude.◌==◌, Prelude.◌<◌, Prelude.ℕ, Prelude.List, Prelude.⊤, Prelude.Option, Prelude.Some, Prelude.OnOk, Prelude.IsTrue, Prelude.length, Prelude.map, List.position_or_len};
 ghost use Rattle.psa_status.specs.Causes.{HasCause};
 ghost use Rattle.key_attributes.specs.Checks.{is_key_type, permits_size};
 ghost use Rattle.crypto_specs.specs.Prelude.{aes_encrypt, ecb_encrypt};
 ghost use Rattle.store_model.specs.Prelude.{mac_of, fits_type};
-ghost use Rattle.driver_dispatch.specs.Held.{HeldKeys, no_keys, with_copy, with_held_key, without_key};
-ghost use Rattle.driver_dispatch.specs.Calls.{Changes, CountsServed, HoldsHandle, IsMac, Lacks, has_element, of_first};
+ghost use Rattle.driver_dispatch.specs.{Held.HeldKeys, Held.no_keys, Held.with_copy, Held.with_held_key, Held.without_key, Calls.Changes, Calls.CountsServed, Calls.HoldsHandle, Calls.IsMac, Calls.Lacks, Calls.has_element, Calls.of_first};
 
 use crate::{Driver, Drivers};
 use alg_encoding::Alg;

@@ -1,11 +1,8 @@
 -- The product of blocks, four bits at a time.
 use Rattle.ghash.proofs.Common.{Bool, List, REDUCTIONS, [], ap, ap₂, arith, bit_at, bit_xor, cond, eqb, false, map, products_of, refl, shifted, shr-shr, slice_index, suc, sum_of_multiples, sym, times_x, times_x4, true, xor_assoc, xor_comm, xor_shifted, xor_zero_r, zero, ℕ, ◌%◌, ◌*◌, ◌+◌, ◌/◌, ◌<◌, ◌^◌, ◌∙◌, ◌∷◌, ◌≡◌}
 use Rattle.std.specs.List.{range_with_len}
-use Rattle.std.proofs.lemmas.List.{get_or-map}
-use Rattle.std.proofs.lemmas.List.FromFn.{get_or-range_with_len}
-use Rattle.crypto_specs.proofs.FieldLaws.{xor_four}
-use Rattle.crypto_specs.proofs.GhashLaws.{times_x-xor}
-use Rattle.crypto_specs.proofs.Tables.{holds_values, value_of}
+use Rattle.std.proofs.{lemmas.List.get_or-map, lemmas.List.FromFn.get_or-range_with_len}
+use Rattle.crypto_specs.proofs.{FieldLaws.xor_four, GhashLaws.times_x-xor, Tables.holds_values, Tables.value_of}
 use Rattle.ghash.proofs.BitProducts.{term, times_x_even}
 
 -- ---- a sum's product by x^4

@@ -1,8 +1,6 @@
 -- The product of blocks, four bits at a time.
-use Rattle.std.specs.Prelude.{◌≡◌, ℕ, zero, suc, ◌+◌, ◌*◌, ◌^◌, List, map}
-use Rattle.std.specs.List.{range_with_len}
-use Rattle.crypto_specs.specs.Ghash.{sum_of_multiples}
-use Rattle.crypto_specs.specs.Prelude.{times_x}
+use Rattle.std.specs.{Prelude.◌≡◌, Prelude.ℕ, Prelude.zero, Prelude.suc, Prelude.◌+◌, Prelude.◌*◌, Prelude.◌^◌, Prelude.List, Prelude.map, List.range_with_len}
+use Rattle.crypto_specs.specs.{Ghash.sum_of_multiples, Prelude.times_x}
 
 -- the product of h and each polynomial of degree below 4, whose highest bit is the coefficient of x^0
 unfoldable pub products_of : ℕ → List ℕ

@@ -1,10 +1,7 @@
 -- The lengths of digests and blocks.
 use Rattle.std.proofs.Common.{List, arith, length, ℕ, ◌≡◌, ◌≤◌}
-use Rattle.sha2.proofs.Facts256.{length-sha224, length-sha256}
-use Rattle.sha2.proofs.Facts512.{length-sha384, length-sha512}
-use Rattle.hash_ops.specs.Hashes.{hash_of, digest_length, block_length}
-use Rattle.hash_ops.specs.declared.Hash.{Hash}
-use Rattle.hash_ops.specs.declared.Hash.TheVariants.{Sha224, Sha256, Sha384, Sha512}
+use Rattle.sha2.proofs.{Facts256.length-sha224, Facts256.length-sha256, Facts512.length-sha384, Facts512.length-sha512}
+use Rattle.hash_ops.specs.{Hashes.hash_of, Hashes.digest_length, Hashes.block_length, declared.Hash.Hash, declared.Hash.TheVariants.Sha224, declared.Hash.TheVariants.Sha256, declared.Hash.TheVariants.Sha384, declared.Hash.TheVariants.Sha512}
 
 pub length-hash_of : (which : Hash) (m : List ℕ) → length (hash_of which m) ≡ digest_length which
 length-hash_of Sha224 m = length-sha224 m

@@ -1,9 +1,7 @@
 -- The four hash functions (FIPS 180-4), each as a function from messages to digests.
 use Rattle.std.specs.Prelude.{ℕ, List, Option, Some, None, cond, eqb}
-use Rattle.sha2.specs.Sha256.{sha224, sha256}
-use Rattle.sha2.specs.Sha512.{sha384, sha512}
-use Rattle.hash_ops.specs.declared.Hash.{Hash}
-use Rattle.hash_ops.specs.declared.Hash.TheVariants.{Sha224, Sha256, Sha384, Sha512}
+use Rattle.sha2.specs.{Sha256.sha224, Sha256.sha256, Sha512.sha384, Sha512.sha512}
+use Rattle.hash_ops.specs.{declared.Hash.Hash, declared.Hash.TheVariants.Sha224, declared.Hash.TheVariants.Sha256, declared.Hash.TheVariants.Sha384, declared.Hash.TheVariants.Sha512}
 
 -- the digest of a message
 abbrev pub hash_of : Hash → List ℕ → List ℕ

@@ -1,10 +1,8 @@
 -- What a running hash stands for.
 use Rattle.std.specs.Prelude.{ℕ, List, []}
 use Rattle.sha2.specs.Hashers.{Holds224, Holds256, Holds384, Holds512}
-use Rattle.hash_ops.specs.declared.state.Hasher.{Hasher}
+use Rattle.hash_ops.specs.{declared.state.Hasher.Hasher, declared.state.HashState.HashState, declared.Hash.Hash}
 use Rattle.hash_ops.specs.declared.state.Hasher.TheVariants as hasher
-use Rattle.hash_ops.specs.declared.state.HashState.{HashState}
-use Rattle.hash_ops.specs.declared.Hash.{Hash}
 use Rattle.hash_ops.specs.declared.Hash.TheVariants as function
 
 -- the hasher is one of this function, and holds this message

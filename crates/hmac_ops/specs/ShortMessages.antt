@@ -1,10 +1,8 @@
 -- What a key for short messages stands for (RFC 2104).
 use Rattle.std.specs.Prelude.{ℕ, List}
 use Rattle.crypto_specs.specs.Prelude.{inner_pad, outer_pad}
-use Rattle.hash_ops.specs.Hashes.{hash_of, block_length}
-use Rattle.hash_ops.specs.declared.Hash.TheVariants.{Sha256}
-use Rattle.hmac_ops.specs.FirstBlocks.{IsFirstBlock, IsWiped}
-use Rattle.hmac_ops.specs.declared.short_message_key.ShortMessageKey.{ShortMessageKey}
+use Rattle.hash_ops.specs.{Hashes.hash_of, Hashes.block_length, declared.Hash.TheVariants.Sha256}
+use Rattle.hmac_ops.specs.{FirstBlocks.IsFirstBlock, FirstBlocks.IsWiped, declared.short_message_key.ShortMessageKey.ShortMessageKey}
 
 -- the key has these bytes: its pads were taken in
 pub record IsShortMessageKey (k : ShortMessageKey) (key : List ℕ) : Type 0 where

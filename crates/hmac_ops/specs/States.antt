@@ -1,11 +1,8 @@
 -- What a key made ready and a running HMAC (RFC 2104) stand for.
 use Rattle.std.specs.Prelude.{ℕ, List, ◌++◌}
 use Rattle.crypto_specs.specs.Prelude.{inner_pad, outer_pad}
-use Rattle.hash_ops.specs.Hashes.{hash_of, block_length}
-use Rattle.hash_ops.specs.States.{HashHolds, IsEmpty}
-use Rattle.hash_ops.specs.declared.Hash.{Hash}
-use Rattle.hmac_ops.specs.declared.key.HmacKey.{HmacKey}
-use Rattle.hmac_ops.specs.declared.state.HmacState.{HmacState}
+use Rattle.hash_ops.specs.{Hashes.hash_of, Hashes.block_length, States.HashHolds, States.IsEmpty, declared.Hash.Hash}
+use Rattle.hmac_ops.specs.{declared.key.HmacKey.HmacKey, declared.state.HmacState.HmacState}
 
 -- the key has this function and these bytes
 pub record IsHmacKey (k : HmacKey) (which : Hash) (key : List ℕ) : Type 0 where

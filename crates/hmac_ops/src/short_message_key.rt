@@ -2,8 +2,7 @@
 
 ghost use Rattle.std.specs.Prelude.{◌≡◌, ℕ, List, take};
 ghost use Rattle.crypto_specs.specs.Prelude.{hmac};
-ghost use Rattle.hash_ops.specs.declared.Hash.TheVariants.{Sha256};
-ghost use Rattle.hash_ops.specs.Hashes.{block_length, hash_of};
+ghost use Rattle.hash_ops.specs.{declared.Hash.TheVariants.Sha256, Hashes.block_length, Hashes.hash_of};
 ghost use Rattle.hmac_ops.specs.ShortMessages.{IsShortMessageKey, IsWipedShortMessageKey};
 
 use crate::first_block::FirstBlock;

@@ -1,7 +1,6 @@
 -- PBKDF2: the sum of the turns that are left.
 use Rattle.kdf_core.proofs.Common.{List, [], ap, ap₂, arith, chain, drop, drop_at, hmac, length, length-append, length-drop, length-take, length-xor_bytes, refl, replicate, suc, sym, take, take-append-drop, take_at, xor_all, xor_bytes, xor_bytes-append, zero, ℕ, ◌++◌, ◌+◌, ◌-◌, ◌<◌, ◌∙◌, ◌∷◌, ◌≡◌, ◌≤◌}
-use Rattle.std.specs.Int.Bits.{xor_zero_r}
-use Rattle.std.specs.List.{fold}
+use Rattle.std.specs.{Int.Bits.xor_zero_r, List.fold}
 
 -- a sum, and c more turns after the turn u
 unfoldable pub summed : (List ℕ → List ℕ) → ℕ → List ℕ → List ℕ → List ℕ → ℕ → List ℕ

@@ -2,8 +2,7 @@
 use Rattle.std.specs.Prelude.{ℕ, List}
 use Rattle.hash_ops.specs.declared.Hash.{Hash}
 use Rattle.hash_ops.specs.declared.Hash.TheVariants as function
-use Rattle.hmac_ops.specs.ShortMessages.{IsShortMessageKey, IsWipedShortMessageKey}
-use Rattle.hmac_ops.specs.States.{IsHmacKey, IsWipedHmacKey}
+use Rattle.hmac_ops.specs.{ShortMessages.IsShortMessageKey, ShortMessages.IsWipedShortMessageKey, States.IsHmacKey, States.IsWipedHmacKey}
 use Rattle.kdf_core.specs.declared.pbkdf2.TurnKey.{TurnKey}
 use Rattle.kdf_core.specs.declared.pbkdf2.TurnKey.TheVariants as form
 

@@ -1,12 +1,9 @@
 // PBKDF2 (RFC 8018 section 5.2).
 
-ghost use Rattle.std.specs.Prelude.{◌≡◌, ◌≤◌, ℕ, List, ◌++◌, drop, length, replicate, take};
-ghost use Rattle.std.specs.Int.{w32, to_be_bytes};
+ghost use Rattle.std.specs.{Prelude.◌≡◌, Prelude.◌≤◌, Prelude.ℕ, Prelude.List, Prelude.◌++◌, Prelude.drop, Prelude.length, Prelude.replicate, Prelude.take, Int.w32, Int.to_be_bytes};
 ghost use Rattle.crypto_specs.specs.Prelude.{xor_bytes, hmac, pbkdf2_block};
-ghost use Rattle.hash_ops.specs.Hashes.{block_length, digest_length, hash_of};
-ghost use Rattle.hash_ops.specs.declared.Hash.TheVariants.{Sha256};
-ghost use Rattle.hmac_ops.specs.ShortMessages.{IsShortMessageKey};
-ghost use Rattle.hmac_ops.specs.States.{IsHmacKey};
+ghost use Rattle.hash_ops.specs.{Hashes.block_length, Hashes.digest_length, Hashes.hash_of, declared.Hash.TheVariants.Sha256};
+ghost use Rattle.hmac_ops.specs.{ShortMessages.IsShortMessageKey, States.IsHmacKey};
 ghost use Rattle.kdf_core.specs.TurnKeys.{IsTurnKey, IsWipedTurnKey};
 
 use hash_ops::Hash;

@@ -1,10 +1,10 @@
 -- What keeps a directory: its row of open cells, and its counts.
-use Rattle.key_cells.proofs.Common.{[], ap, arith, Bool, cases_eq, cases_lt, cell_count, cell_state, CellState, cond, count_by, drop, eq-eqb, false, Free, get_or, get_or-replicate, get_or-set_other, get_or-set_same, has_id, HasNoKey, HasOneEach, is_open, length, length-replicate, length-set, List, Open, refl, replicate, set, settled_state, settled_states, Shut, subst, suc, sum_by-cons, sym, true, Unsure, zero, ℕ, ⊎_elim, ◌+◌, ◌<◌, ◌==◌, ◌∙◌, ◌∷◌, ◌≡◌, ◌≢◌, ◌≤◌, ◌⊎◌}
-use Rattle.std.proofs.{lemmas.Bool.ne_eqb, lemmas.List.get_or_past, lemmas.List.Recursion.is_count_by, lemmas.List.Sorted.IsPermutation-sym, lemmas.List.Sorted.length_permutation, lemmas.List.Sums.count_by-le-length, lemmas.List.Sums.get_or-le-sum_by, lemmas.List.Sums.sum_by-set}
-use Rattle.std.specs.{List.sum_by}
-use Rattle.key_index.specs.{Index.IsAlone, Index.IsIndexOf, Index.entries_of, declared.index.Entry.Entry}
+use Rattle.key_cells.proofs.Common.{[], ap, arith, Bool, cases_eq, cases_lt, cell_count, cell_state, CellState, cond, count_by, drop, eq-eqb, false, Free, get_or, get_or-replicate, get_or-set_other, get_or-set_same, has_id, HasNoKey, HasOneEach, is_open, length, length-replicate, length-set, List, Open, refl, replicate, set, settled_state, settled_states, Shut, subst, suc, sum_by-cons, sym, true, Unsure, zero, ℕ, ⊎_elim, ◌*◌, ◌+◌, ◌-◌, ◌<◌, ◌==◌, ◌^◌, ◌∙◌, ◌∷◌, ◌≡◌, ◌≢◌, ◌≤◌, ◌⊎◌}
+use Rattle.std.proofs.{lemmas.Bool.ne_eqb, lemmas.List.get_or_past, lemmas.List.Recursion.is_count_by, lemmas.List.Sorted.IsPermutation-sym, lemmas.List.Sorted.length_permutation, lemmas.List.Sorted.sum_by-IsPermutation, lemmas.List.Sums.count_by-le-length, lemmas.List.Sums.get_or-le-sum_by, lemmas.List.Sums.sum_by-set, lemmas.Bool.Decides.nat_tests}
+use Rattle.std.specs.{List.sum_by, Prelude.◌/◌}
+use Rattle.key_index.specs.{Index.is_between, Index.IsAlone, Index.IsIndexOf, Index.entries_of, declared.index.Entry.Entry}
 use Rattle.key_index.proofs.Changes.{index_gains, index_loses, index_same}
-use Rattle.key_cells.specs.{Directory.AreIndexed, Directory.HasBeside, Directory.is_in_doubt}
+use Rattle.key_cells.specs.{Directory.AreIndexed, Directory.HasBeside, Directory.has_id_by, Directory.is_in_doubt, Directory.is_of_range}
 
 -- a state has no identifier beside that of its key
 pub no_id_shut : (id : ℕ) (state : CellState) → is_open state ≡ false → has_id id state ≡ false
@@ -36,6 +36,18 @@ beside_length Free cell more fewer left less beside = omega (arith, ap length be
 beside_length (Open id creation) cell more fewer left less beside = omega (arith, length_permutation _ _ beside.0)
 beside_length Shut cell more fewer left less beside = omega (arith, ap length beside.0)
 beside_length Unsure cell more fewer left less beside = omega (arith, ap length beside.0)
+
+-- and how many of it pass a test
+counts : (passes : ℕ → Bool) (e : Entry) (entries : List Entry) → count_by (λ (x : Entry). passes x.id) (e ∷ entries) ≡ cond (passes e.id) 1 0 + count_by (λ (x : Entry). passes x.id) entries
+counts passes e entries = sum_by-cons (λ (x : Entry). cond (passes x.id) 1 0) e entries
+
+beside_passing : (passes : ℕ → Bool) (state : CellState) (cell : ℕ) (more fewer : List Entry) (left less : ℕ) → HasBeside state cell more fewer left less
+    → count_by (λ (x : Entry). passes x.id) more ≡ count_by (λ (x : Entry). passes x.id) fewer + cond (has_id_by passes state) 1 0
+beside_passing passes Free cell more fewer left less beside = omega (arith, ap (count_by (λ (x : Entry). passes x.id)) beside.0)
+beside_passing passes (Open id creation) cell more fewer left less beside =
+    omega (arith, counts passes (record { id = id; place = cell }) fewer, sum_by-IsPermutation (λ (x : Entry). cond (passes x.id) 1 0) (record { id = id; place = cell } ∷ fewer) more beside.0)
+beside_passing passes Shut cell more fewer left less beside = omega (arith, ap (count_by (λ (x : Entry). passes x.id)) beside.0)
+beside_passing passes Unsure cell more fewer left less beside = omega (arith, ap (count_by (λ (x : Entry). passes x.id)) beside.0)
 
 beside_left : (state : CellState) (cell : ℕ) (more fewer : List Entry) (left less : ℕ) → HasBeside state cell more fewer left less → left ≡ less + cond (is_in_doubt state) 1 0
 beside_left Free cell more fewer left less beside = beside.1
@@ -173,6 +185,7 @@ module _ (states : List CellState) (entries middle : List Entry) (first left les
       index = set_index;
       once = set_once;
       counted = omega (arith, beside_length state cell more middle left' less put, beside_length (cell_state states cell) cell entries middle left less out, count_set is_open states cell state there, kept.counted);
+      passing = λ passes. omega (arith, beside_passing passes state cell more middle left' less put, beside_passing passes (cell_state states cell) cell entries middle left less out, count_set (has_id_by passes) states cell state there, kept.passing passes);
       before = λ k less_k. ⊎_elim
           (λ old. ap is_open (elsewhere k old.1) ∙ kept.before k old.0)
           (λ is. rw is.0 (ap is_open here ∙ is.1))
@@ -186,6 +199,7 @@ kept_start n is = record {
   index = λ id k. ap (λ b. cond b 1 0) (sym (ap (has_id id) (free_at k)));
   once = λ id one other one_within other_within has. absurd (let e : false ≡ true = ap (has_id id) (sym (free_at one)) ∙ has in cc);
   counted = sym (none_of is_open refl n);
+  passing = λ passes. sym (none_of (has_id_by passes) refl n);
   before = λ k lt. absurd (omega (arith, lt));
   in_doubt = sym (none_of is_in_doubt refl n);
 } where
@@ -195,6 +209,19 @@ kept_start n is = record {
   none_of : (p : CellState → Bool) → p Free ≡ false → (m : ℕ) → count_by p (replicate m Free) ≡ 0
   none_of p not_free zero = refl
   none_of p not_free (suc m) = sym (counted_by p (replicate (suc m) Free)) ∙ sum_by-cons (one_by p) Free (replicate m Free) ∙ omega (arith, ap (λ b. cond {A = ℕ} b 1 0) not_free, counted_by p (replicate m Free), none_of p not_free m)
+
+-- identifiers of a range are those from its first to its last
+of_range : (range id : ℕ) → is_between (range * 2 ^ 26) (range * 2 ^ 26 + (2 ^ 26 - 1)) id ≡ (id / 2 ^ 26 == range)
+of_range range id = by (is_between (range * 2 ^ 26) (range * 2 ^ 26 + (2 ^ 26 - 1)) id) (id / 2 ^ 26 == range) refl refl
+  where
+    by : (a b : Bool) → is_between (range * 2 ^ 26) (range * 2 ^ 26 + (2 ^ 26 - 1)) id ≡ a → (id / 2 ^ 26 == range) ≡ b → a ≡ b
+    by true true within is = refl
+    by false false within is = refl
+    by true false within is = grind (arith, nat_tests)
+    by false true within is = grind (arith, nat_tests)
+
+pub counts_range : (range : ℕ) (states : List CellState) → count_by (has_id_by (is_between (range * 2 ^ 26) (range * 2 ^ 26 + (2 ^ 26 - 1)))) states ≡ count_by (is_of_range range) states
+counts_range range states = λ k. count_by (has_id_by (λ id. of_range range id k)) states
 
 -- no cell is in doubt exactly where none is counted
 pub none_in_doubt : (states : List CellState) → count_by is_in_doubt states ≡ 0 → settled_states states ≡ states

@@ -1,5 +1,5 @@
 -- What the states are that an opening reads, one cell after the other.
-use Rattle.key_cells.proofs.Common.{[], ap, arith, body, Bool, cases_eq, cases_lt, cell_state, CellState, closed, cond, count_by, count_by_more_no, count_by_more_yes, creation_of_state, DamagedCell, drop, eq-eqb, eqb-true, false, Free, gate, get_or, get_or-replicate, get_or-set_other, get_or-set_same, GivesPart, has_id, HasNoKey, HasOneEach, HoldsId, HoldsNoKey, identifier_in, IfSome, inl, inr, is_open, IsBadCell, IsDamaged, IsNamed, IsNumbered, IsOpen, IsOpenFaultOf, IsPersistent, IsStoreFile, length, length-set, List, None, Open, opened_gate, Option, Reads, ReadsBelow, refl, replicate, set, Shut, Some, subst, sym, take, take-set-le, true, Unsure, ℕ, ⊎_elim, ◌*◌, ◌+◌, ◌<◌, ◌∙◌, ◌∷◌, ◌≡◌, ◌≢◌, ◌≤◌, cell_count}
+use Rattle.key_cells.proofs.Common.{[], ap, AreFreeFrom, arith, body, Bool, cases_eq, cases_lt, cell_state, cells_of, CellState, closed, cond, count_by, count_by_more_no, count_by_more_yes, creation_of_state, DamagedCell, drop, eq-eqb, eqb-true, false, Free, gate, get_or, get_or-replicate, get_or-set_other, get_or-set_same, GivesPart, has_id, HasNoKey, HasOneEach, HoldsId, HoldsNoKey, identifier_in, IfSome, inl, inr, is_open, IsBadCell, IsDamaged, IsNamed, IsNumbered, IsOpen, IsOpenFaultOf, IsPersistent, IsStoreFile, length, length-set, List, None, Open, opened_gate, Option, Reads, ReadsBelow, refl, replicate, set, Shut, Some, subst, sym, take, take-set-le, true, Unsure, ℕ, ⊎_elim, ◌*◌, ◌+◌, ◌<◌, ◌∙◌, ◌∷◌, ◌≡◌, ◌≢◌, cell_count}
 use Rattle.key_cells.proofs.{Bodies.parts_of, CellsRead.gate_read, CellsRead.body_read}
 use Rattle.std.proofs.lemmas.List.{get_or_past}
 
@@ -26,14 +26,25 @@ reads_more (Some image) count states state bytes lt below gives reads = λ cell 
     here = subst (λ (b : List ℕ). Reads state (gate count image) b) (ap (drop 1) gives ∙ body_read count image) (subst (λ (g : List ℕ). Reads state g (drop 1 bytes)) (ap (take 1) gives ∙ gate_read count image) reads)
 
 -- the cells that aren't read yet are as in a new directory
-abbrev pub IsUnread : ℕ → List CellState → Type 0
-IsUnread count states = (cell : ℕ) → count ≤ cell → cell_state states cell ≡ Free
 
-was_read : (count : ℕ) (states : List CellState) (id cell : ℕ) → IsUnread count states → has_id id (cell_state states cell) ≡ true → cell < count
+pub was_read : (count : ℕ) (states : List CellState) (id cell : ℕ) → AreFreeFrom count states → has_id id (cell_state states cell) ≡ true → cell < count
 was_read count states id cell unread has = ⊎_elim (λ before. before) (λ after. let none : false ≡ true = ap (has_id id) (sym (unread cell after)) ∙ has in cc) (cases_lt cell count)
 
-pub unread_more : (count : ℕ) (states : List CellState) (state : CellState) → IsUnread count states → IsUnread (count + 1) (set states count state)
+pub unread_more : (count : ℕ) (states : List CellState) (state : CellState) → AreFreeFrom count states → AreFreeFrom (count + 1) (set states count state)
 unread_more count states state unread cell after = get_or-set_other states count cell state Free (λ same. omega (arith, after, same)) ∙ unread cell (omega (arith, after))
+
+-- what holds of the cells that were read holds of all
+pub one_all : (count : ℕ) (states : List CellState) → HasOneEach count states → AreFreeFrom count states → HasOneEach cell_count states
+one_all count states one free id cell other lt lt' has has' = one id cell other (was_read count states id cell free has) (was_read count states id other free has') has has'
+
+pub numbered_all : (count : ℕ) (states : List CellState) → IsNumbered count states → AreFreeFrom count states → IsNumbered cell_count states
+numbered_all count states numbered free cell lt open_now = ⊎_elim
+    (λ before. numbered cell before open_now)
+    (λ after. let none : false ≡ true = ap is_open (sym (free cell after)) ∙ open_now in cc)
+    (cases_lt cell count)
+
+pub named_all : (count : ℕ) (states : List CellState) → IsNamed count states → AreFreeFrom count states → IsNamed cell_count states
+named_all count states named free id cell lt has = named id cell (was_read count states id cell free has) has
 
 pub one_more : (count : ℕ) (states : List CellState) (state : CellState) → count < length states → HasOneEach count states → ((id : ℕ) → has_id id state ≡ true → HasNoKey states id) → HasOneEach (count + 1) (set states count state)
 one_more count states state lt one new id cell other cell_lt other_lt has has' =
@@ -115,15 +126,15 @@ not_damaged count states image reads one cell lt damaged =
     damaged.1
 
 -- the first damaged cell
-pub first_damaged : (told : Option (List ℕ)) (count : ℕ) (states : List CellState) (bytes : List ℕ) → count < cell_count → length states ≡ cell_count → IfSome told (λ image. IsStoreFile image) → IfSome told (λ image. ReadsBelow count states image)
-    → HasOneEach count states → IsUnread count states → GivesPart told (64 + 1088 * count) 1088 bytes → IsBadCell bytes states → IfSome told (λ image. IsOpenFaultOf (DamagedCell count) image)
-first_damaged None count states bytes lt size store reads one unread gives bad = tt
-first_damaged (Some image) count states bytes lt size store reads one unread gives bad =
+pub first_damaged : (told : Option (List ℕ)) (cells count : ℕ) (states : List CellState) (bytes : List ℕ) → count < cells → IfSome told (λ image. IsStoreFile image × (cells_of image ≡ cells)) → IfSome told (λ image. ReadsBelow count states image)
+    → HasOneEach count states → AreFreeFrom count states → GivesPart told (64 + 1088 * count) 1088 bytes → IsBadCell bytes states → IfSome told (λ image. IsOpenFaultOf (DamagedCell count) image)
+first_damaged None cells count states bytes lt store reads one unread gives bad = tt
+first_damaged (Some image) cells count states bytes lt store reads one unread gives bad =
     let gate_is : take 1 bytes ≡ gate count image = ap (take 1) gives ∙ gate_read count image in
     let body_is : drop 1 bytes ≡ body count image = ap (drop 1) gives ∙ body_read count image in
     record {
-      store = store;
-      within = lt;
+      store = store.0;
+      within = omega (arith, lt, store.1);
       here = (
         sym gate_is ∙ bad.0,
         ⊎_elim

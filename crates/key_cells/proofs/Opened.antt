@@ -1,11 +1,11 @@
 -- How the parts of an opening follow one another.
-use Rattle.key_cells.proofs.Common.{[], Absent, ap, arith, body, Bool, Calm, cell_state, cell_count, CellState, Clearing, closed, cond, Content, content_of, contents_of, count_by, creation_of_state, Disk, drop-replicate, Elapses, false, Finds, found_in, Free, gate, get_or, get_or-map, get_or-replicate, has_id, HasNoOpenCell, HasOneEach, HoldsSinceSync, IfSome, inl, inr, is_open, is_opened, is_some, IsBlankSinceSync, IsDisk, IsFoundIn, IsImageDirectory, IsNamed, IsNumbered, IsOpen, IsOpened, IsOpenFaultOf, IsOpeningRefused, IsRefusal, IsStoreFile, LeavesWhatIsRead, length, length-map, List, map, nil_from_length, None, NoNewImage, NotAStore, Open, opened_gate, Option, place, Present, Reads, ReadsBelow, refl, replicate, settled_state, settled_states, Shut, Some, SoundBy, Spares, SparesSinceSync, SparesStore, StandsForContents, StillTells, subst, sum_by-cons, sym, take, take-map, true, Unsure, Within, within_both, within_none, within_one, WithinSpares, WritesItsOwn, zeros, ℕ, ⊎_elim, ◌+◌, ◌-◌, ◌<◌, ◌∙◌, ◌∷◌, ◌≡◌, ◌≢◌, ◌≤◌, ◌⊎◌, store_size}
+use Rattle.key_cells.proofs.Common.{[], Absent, AreFreeFrom, ap, arith, body, cases_lt, cells_by, cells_of, frame_of, Frame, HoldsSameKeys, HasSize, HasZerosWhereClosed, IsStoreOf, layout_by, layout_of, older_size, Opens, part, Bool, Calm, cell_state, cell_count, CellState, Clearing, closed, cond, Content, content_of, contents_of, count_by, creation_of_state, DamagedCell, Disk, drop-replicate, Elapses, false, Finds, found_in, Free, gate, get_or, get_or-map, get_or-replicate, has_id, HasNoOpenCell, HasOneEach, HoldsSinceSync, IfSome, inl, inr, is_open, is_opened, is_some, IsBlankSinceSync, IsDisk, IsFoundIn, IsImageDirectory, IsNamed, IsNumbered, IsOpen, IsOpened, IsOpenFaultOf, IsOpeningRefused, IsRefusal, IsStoreFile, LeavesWhatIsRead, length, length-map, List, map, nil_from_length, None, NoNewImage, NotAStore, Open, opened_gate, Option, place, Present, Reads, ReadsBelow, refl, replicate, settled_state, settled_states, Shut, Some, SoundBy, Spares, SparesSinceSync, SparesStore, StandsForContents, StillTells, subst, sum_by-cons, sym, take, take-map, true, Unsure, Within, within_both, within_none, within_one, WithinSpares, WritesItsOwn, zeros, ℕ, ⊎_elim, ◌+◌, ◌-◌, ◌<◌, ◌∙◌, ◌∷◌, ◌≡◌, ◌≢◌, ◌≤◌, ◌⊎◌, store_size}
 use Rattle.disk_face.specs.declared.Disk as Disk
-use Rattle.std.proofs.Common.{ne_eqb, suc, zero}
+use Rattle.std.proofs.{Common.ne_eqb, Common.suc, Common.zero, lemmas.List.get_or_past}
 unfoldable use Rattle.key_cells.specs.Layout.{blank_store}
 use Rattle.psa_status.specs.Causes.{Rose}
-use Rattle.key_cells.specs.declared.reading.OpenFault.{OpenFault}
-use Rattle.key_cells.proofs.{CellsRead.content_there, CellsRead.for_told, CellsRead.length-contents_of, CellsRead.some_weaker, Finding.not_damaged, Moves.settled_alike, Moves.settled_open}
+use Rattle.key_cells.specs.{declared.reading.OpenFault.OpenFault, declared.layout.Layout.Layout, declared.layout.Layout.TheVariants.Older, declared.layout.Layout.TheVariants.Current, Opened.KeepsKeysSinceSync}
+use Rattle.key_cells.proofs.{CellsRead.content_there, CellsRead.content_within, CellsRead.for_told, CellsRead.some_weaker, Finding.not_damaged, Keeping.cells_most, Keeping.part_same, Marking.within_then, Moves.settled_alike, Moves.settled_open, SameKeys.keys_since}
 
 pub no_open_zeros : (n : ℕ) → HasNoOpenCell (replicate n 0)
 no_open_zeros n cell lt is = by (n - place cell) (ap (take 1) (sym (drop-replicate (place cell) n 0)) ∙ is)
@@ -15,7 +15,15 @@ no_open_zeros n cell lt is = by (n - place cell) (ap (take 1) (sym (drop-replica
     by (suc m) e = cc
 
 spares_itself : (image : List ℕ) → IsStoreFile image → SparesStore image image
-spares_itself image store = record { store = store; open_cells = λ cell lt is. (is, refl); shut = λ cell lt is. is; zeros = λ cell lt zeros. zeros }
+spares_itself image store = record {
+  store = store;
+  cells = omega arith;
+  open_cells = λ cell lt is. (is, refl);
+  shut = λ cell lt is. is;
+  zeros = λ cell lt zeros. zeros;
+  beyond = λ cell past lt. absurd (omega (arith, past, lt));
+  cleared = λ more. absurd (⊎_elim (λ longer. omega (arith, longer)) (λ larger. omega (arith, larger)) more);
+}
 
 module _ {D : Type 0} (disks : Disk.Ghosts D) where
   -- calls that write nothing
@@ -80,6 +88,7 @@ module _ {D : Type 0} (disks : Disk.Ghosts D) where
     spares = for_told (disks.contents old) _ (λ image is store. spares_calm old new calm image);
     left = for_told (disks.contents old) _ (λ image is store. inl calm.crash);
     wrote = for_told (disks.contents old) _ (λ image is. inl calm);
+    keys = for_told (disks.contents old) _ (λ image is opens clean. inl calm);
     spares_read = for_told (disks.contents old) _ (λ image is store. subst (λ (o : Option (List ℕ)). IfSome o (SparesStore image)) (sym (calm.same ∙ is)) (spares_itself image store));
     blank_read = for_told (disks.contents old) _ (λ image is none. subst (λ (o : Option (List ℕ)). IfSome o HasNoOpenCell) (sym (calm.same ∙ is)) (subst HasNoOpenCell (sym none) (no_open_zeros 0)));
   }
@@ -105,6 +114,7 @@ module _ {D : Type 0} (disks : Disk.Ghosts D) where
     spares = after (disks.contents a) (disks.contents b) _ _ calm.same (λ image h. spares_after a b c calm image h) o.spares;
     since_sync = after (disks.contents a) (disks.contents b) _ _ calm.same (λ image h store. since_after a b c image (SparesStore image) calm (h store)) o.since_sync;
     blank = after (disks.contents a) (disks.contents b) _ _ calm.same (λ image h none. since_after a b c blank_store HasNoOpenCell calm (h none)) o.blank;
+    keys = after (disks.contents a) (disks.contents b) _ _ calm.same (λ image h opens clean. since_after a b c image (HoldsSameKeys image) calm (h opens clean)) o.keys;
   }
 
   pub refused_after : (a b c : D) (fault : OpenFault) → Calm disks a b → IsOpeningRefused disks b c fault → IsOpeningRefused disks a c fault
@@ -119,6 +129,8 @@ module _ {D : Type 0} (disks : Disk.Ghosts D) where
     left = after (disks.contents a) (disks.contents b) _ (λ image. IsStoreFile image → NoNewImage (disks.may_leave a) (disks.may_leave c) ⊎ ((other : List ℕ) → disks.may_leave c other → SparesStore image other)) calm.same
         (λ image h store. ⊎_elim (λ none. inl (λ other left. calm.crash other (none other left))) (λ spared. inr spared) (h store)) r.left;
     wrote = after (disks.contents a) (disks.contents b) _ _ calm.same (λ image h. wrote_after a b c image calm h) r.wrote;
+    keys = after (disks.contents a) (disks.contents b) _ (λ image. Opens image → HasZerosWhereClosed image → Calm disks a c ⊎ KeepsKeysSinceSync disks a c image) calm.same
+        (λ image h opens clean. ⊎_elim (λ none. inl (calm_both a b c calm none)) (λ kept. inr (since_after a b c image (HoldsSameKeys image) calm kept)) (h opens clean)) r.keys;
     spares_read = after (disks.contents a) (disks.contents b) (λ image. IsStoreFile image → IfSome (disks.contents c) (SparesStore image)) _ calm.same (λ image h. h) r.spares_read;
     blank_read = after (disks.contents a) (disks.contents b) (λ image. image ≡ [] → IfSome (disks.contents c) HasNoOpenCell) _ calm.same (λ image h. h) r.blank_read;
   }
@@ -138,18 +150,21 @@ reads_spares (Open id creation) gate body r = subst (λ (g : List ℕ). Spares (
 reads_spares Shut gate body r = subst (λ (g : List ℕ). Spares Shut (content_of g body) g body) (sym r.0) refl
 reads_spares Unsure gate body r = subst (λ (c : Content). Spares Unsure c gate body) (sym (not_opened gate body r.0)) tt
 
-pub reads_sound : (states : List CellState) (image : List ℕ) → IsStoreFile image → ReadsBelow cell_count states image → SoundBy Spares states (contents_of image) image
-reads_sound states image store reads = record {
-  size = store.size;
-  header = store.header;
-  each = λ cell lt. rw (content_there cell image lt) (reads_spares (cell_state states cell) (gate cell image) (body cell image) (reads cell lt));
+pub content_found : (cell : ℕ) (image : List ℕ) → cell < cells_of image → get_or (contents_of image) cell Absent ≡ content_of (gate cell image) (body cell image)
+content_found cell image lt = content_there cell image (omega (arith, lt, cells_most image)) ∙ content_within cell image lt
+
+pub reads_sound : (states : List CellState) (image : List ℕ) → ReadsBelow (cells_of image) states image → SoundBy (frame_of image) Spares states (contents_of image) image
+reads_sound states image reads = record {
+  size = refl;
+  header = refl;
+  each = λ cell lt. rw (content_found cell image lt) (reads_spares (cell_state states cell) (gate cell image) (body cell image) (reads cell lt));
 }
 
 -- what is spared is each open cell, byte for byte
-pub spares_open : (states : List CellState) (image other : List ℕ) → SoundBy Spares states (contents_of image) other
-    → (cell : ℕ) → cell < cell_count → IsOpen cell image → IsOpen cell other × (body cell other ≡ body cell image)
+spares_open : (states : List CellState) (image other : List ℕ) → SoundBy (frame_of image) Spares states (contents_of image) other
+    → (cell : ℕ) → cell < cells_of image → IsOpen cell image → IsOpen cell other × (body cell other ≡ body cell image)
 spares_open states image other s cell lt is =
-    let there : get_or (contents_of image) cell Absent ≡ Present (body cell image) = content_there cell image lt ∙ ap (λ (g : List ℕ). content_of g (body cell image)) is in
+    let there : get_or (contents_of image) cell Absent ≡ Present (body cell image) = content_found cell image lt ∙ ap (λ (g : List ℕ). content_of g (body cell image)) is in
     by (cell_state states cell) (gate cell other) (body cell other) (subst (λ (c : Content). Spares (cell_state states cell) c (gate cell other) (body cell other)) there (s.each cell lt))
   where
     by : (state : CellState) (g b : List ℕ) → Spares state (Present (body cell image)) g b → (g ≡ opened_gate) × (b ≡ body cell image)
@@ -169,19 +184,33 @@ zeros_still (Open id creation) g' b' r s = absurd s
 zeros_still Shut g' b' r s = absurd (r.1 refl)
 zeros_still Unsure g' b' r s = absurd (r.1 refl)
 
-spares_store : (states : List CellState) (image other : List ℕ) → ReadsBelow cell_count states image → SoundBy Spares states (contents_of image) other → SparesStore image other
-spares_store states image other reads s = record {
-  store = record { size = s.size; header = s.header };
+-- the header tells the layout
+pub same_layout : (image other : List ℕ) → part 0 64 other ≡ part 0 64 image → layout_of other ≡ layout_of image
+same_layout image other same = ap layout_by (part_same 64 8 1 other image (omega arith) same)
+
+pub spares_store : (states : List CellState) (image other : List ℕ) → IsStoreFile image → ReadsBelow (cells_of image) states image → SoundBy (frame_of image) Spares states (contents_of image) other → SparesStore image other
+spares_store states image other store reads s = record {
+  store = record {
+    name = part_same 64 0 8 other image (omega arith) s.header ∙ store.name;
+    rest = part_same 64 9 55 other image (omega arith) s.header ∙ store.rest;
+    size = subst (λ (n : ℕ). HasSize (layout_of other) n) (sym s.size) (subst (λ (l : Layout). HasSize l (length image)) (sym layout) store.size);
+  };
+  cells = omega (arith, ap cells_by layout);
   open_cells = spares_open states image other s;
   shut = λ cell lt is. shut_still (cell_state states cell) (body cell image) (gate cell other) (body cell other) (read cell lt is) (spared cell lt is);
   zeros = λ cell lt are. zeros_still (cell_state states cell) (gate cell other) (body cell other) (subst (λ (b : List ℕ). Reads (cell_state states cell) closed b) are.1 (read cell lt are.0)) (spared cell lt are.0);
+  beyond = λ cell past lt. absurd (omega (arith, past, lt, ap cells_by layout));
+  cleared = λ more. absurd (⊎_elim (λ longer. omega (arith, longer, s.size)) (λ larger. omega (arith, larger, ap cells_by layout)) more);
 }
   where
-    read : (cell : ℕ) → cell < cell_count → gate cell image ≡ closed → Reads (cell_state states cell) closed (body cell image)
+    layout : layout_of other ≡ layout_of image
+    layout = same_layout image other s.header
+
+    read : (cell : ℕ) → cell < cells_of image → gate cell image ≡ closed → Reads (cell_state states cell) closed (body cell image)
     read cell lt is = subst (λ (g : List ℕ). Reads (cell_state states cell) g (body cell image)) is (reads cell lt)
 
-    spared : (cell : ℕ) → cell < cell_count → gate cell image ≡ closed → Spares (cell_state states cell) Absent (gate cell other) (body cell other)
-    spared cell lt is = subst (λ (c : Content). Spares (cell_state states cell) c (gate cell other) (body cell other)) (content_there cell image lt ∙ ap (λ (g : List ℕ). content_of g (body cell image)) is) (s.each cell lt)
+    spared : (cell : ℕ) → cell < cells_of image → gate cell image ≡ closed → Spares (cell_state states cell) Absent (gate cell other) (body cell other)
+    spared cell lt is = subst (λ (c : Content). Spares (cell_state states cell) c (gate cell other) (body cell other)) (content_found cell image lt ∙ ap (λ (g : List ℕ). content_of g (body cell image)) is) (s.each cell lt)
 
 -- the directory once no cell is left over
 settled_has : (id : ℕ) (state : CellState) → has_id id (settled_state state) ≡ has_id id state
@@ -224,16 +253,33 @@ module _ (states states' : List CellState) (count : length states ≡ cell_count
   finds Unsure g b r = r.0
   finds (Open id creation) g b r = r
 
-  pub settled_directory : (image : List ℕ) → IsStoreFile image → ReadsBelow cell_count states image → HasOneEach cell_count states → IsImageDirectory states' image
-  settled_directory image store reads one = record {
-    opens = record { store = store; sound = λ cell lt damaged. not_damaged cell_count states image reads one cell lt damaged };
-    each = λ cell lt. subst (λ (s : CellState). Finds s (gate cell image) (body cell image)) (sym (at cell lt)) (finds (cell_state states cell) (gate cell image) (body cell image) (reads cell lt));
+  pub free_still : (from : ℕ) → AreFreeFrom from states → AreFreeFrom from states'
+  free_still from free cell past = ⊎_elim
+      (λ lt. at cell lt ∙ ap settled_state (free cell past))
+      (λ over. ap (λ (l : List CellState). cell_state l cell) is ∙ get_or_past (settled_states states) cell Free (omega (arith, over, length-map states settled_state, count)))
+      (cases_lt cell cell_count)
+
+  pub settled_directory : (image : List ℕ) → IsStoreFile image → ReadsBelow (cells_of image) states image → AreFreeFrom (cells_of image) states → HasOneEach cell_count states → IsImageDirectory states' image
+  settled_directory image store reads free one = record {
+    opens = record { store = store; sound = λ cell lt damaged. not_damaged (cells_of image) states image reads (λ id c other less less'. one id c other (omega (arith, less, few)) (omega (arith, less', few))) cell lt damaged };
+    beyond = free_still (cells_of image) free;
+    each = λ cell lt. subst (λ (s : CellState). Finds s (gate cell image) (body cell image)) (sym (at cell (omega (arith, lt, few)))) (finds (cell_state states cell) (gate cell image) (body cell image) (reads cell lt));
   }
+    where
+      few : cells_of image ≤ cell_count
+      few = cells_most image
 
 -- a new store, of an image of no bytes
+pub store_long : (image : List ℕ) → IsStoreFile image → older_size ≤ length image
+store_long image store = by (layout_of image) store.size
+  where
+    by : (l : Layout) → HasSize l (length image) → older_size ≤ length image
+    by Older size = size.0
+    by Current size = omega (arith, size)
+
 pub no_store : (told : Option (List ℕ)) (size : ℕ) (P : List ℕ → Type 0) → size ≡ 0 → IfSome told (λ image. length image ≡ size) → IfSome told (λ image. IsStoreFile image → P image)
 no_store None size P none measured = tt
-no_store (Some image) size P none measured = λ store. absurd (omega (arith, store.size, measured))
+no_store (Some image) size P none measured = λ store. absurd (omega (arith, none, store_long image store, measured))
 
 pub of_nothing : (told : Option (List ℕ)) (size : ℕ) (P : List ℕ → Type 0) → size ≡ 0 → IfSome told (λ image. length image ≡ size) → P [] → IfSome told P
 of_nothing None size P none measured h = tt
@@ -256,6 +302,7 @@ refused_new disks old new size none measured tells later rose blank = record {
   spares = no_store (disks.contents old) size _ none measured;
   left = no_store (disks.contents old) size _ none measured;
   wrote = for_told (disks.contents old) _ (λ image is. inr (inr (nil_from_length image (empty image is), (blank image is (empty image is)).1)));
+  keys = for_told (disks.contents old) _ (λ image is opens clean. absurd (omega (arith, store_long image opens.store, empty image is)));
   spares_read = no_store (disks.contents old) size _ none measured;
   blank_read = for_told (disks.contents old) _ (λ image is nothing. (blank image is (empty image is)).0);
 }
@@ -266,12 +313,12 @@ refused_new disks old new size none measured tells later rose blank = record {
 -- a store that was read, of an image that isn't empty
 pub of_store : (told : Option (List ℕ)) (P : List ℕ → List Content → Type 0) → IfSome told (λ image. IsStoreFile image × P image (contents_of image)) → IfSome told (λ image. P image (found_in image))
 of_store None P h = tt
-of_store (Some []) P h = absurd (omega (arith, h.0.size))
+of_store (Some []) P h = absurd (omega (arith, store_long [] h.0))
 of_store (Some (byte ∷ rest)) P h = h.1
 
 pub of_directory : (told : Option (List ℕ)) (states : List CellState) → IfSome told (λ image. IsImageDirectory states image) → IfSome told (λ image. IsFoundIn image states)
 of_directory None states h = tt
-of_directory (Some []) states h = absurd (omega (arith, h.opens.store.size))
+of_directory (Some []) states h = absurd (omega (arith, store_long [] h.opens.store))
 of_directory (Some (byte ∷ rest)) states h = h
 
 -- no state of a new store has a key
@@ -280,84 +327,95 @@ none_has f cell states none are lt has =
     let clash : false ≡ true = sym (ap f (ap (λ (l : List CellState). cell_state l cell) are ∙ get_or-replicate cell_count cell Free Free lt) ∙ none) ∙ has in
     cc
 
-module _ {D : Type 0} (disks : Disk.Ghosts D) (disk mid : D) (states : List CellState) (calm : Calm disks disk mid) (durable : LeavesWhatIsRead (disks.contents disk) (disks.may_leave disk)) (store : IfSome (disks.contents disk) (λ image. IsStoreFile image)) (reads : IfSome (disks.contents disk) (λ image. ReadsBelow cell_count states image)) where
+-- a fault that isn't for what the image has
+others_fault : (fault : OpenFault) (image : List ℕ) → (IsRefusal fault → ⊥) → IsOpenFaultOf fault image
+others_fault NotAStore image other = absurd (other tt)
+others_fault (DamagedCell cell) image other = absurd (other tt)
+others_fault fault image other = tt
+
+-- A store was read, of which nothing is pending.
+module _ {D : Type 0} (disks : Disk.Ghosts D) (disk : D) (layout : Layout) (states : List CellState) (durable : LeavesWhatIsRead (disks.contents disk) (disks.may_leave disk)) (store : IfSome (disks.contents disk) (IsStoreOf layout)) (reads : IfSome (disks.contents disk) (ReadsBelow (cells_by layout) states)) where
   only : (image : List ℕ) → disks.contents disk ≡ Some image → LeavesWhatIsRead (Some image) (disks.may_leave disk)
   only image is = subst (λ (o : Option (List ℕ)). LeavesWhatIsRead o (disks.may_leave disk)) is durable
 
-  here : (image : List ℕ) → disks.contents disk ≡ Some image → IsStoreFile image
-  here image is = subst (λ (o : Option (List ℕ)). IfSome o (λ image. IsStoreFile image)) is store
+  pub here : (image : List ℕ) → disks.contents disk ≡ Some image → IsStoreOf layout image
+  here image is = subst (λ (o : Option (List ℕ)). IfSome o (IsStoreOf layout)) is store
 
-  read : (image : List ℕ) → disks.contents disk ≡ Some image → ReadsBelow cell_count states image
-  read image is = subst (λ (o : Option (List ℕ)). IfSome o (λ image. ReadsBelow cell_count states image)) is reads
+  read : (image : List ℕ) → disks.contents disk ≡ Some image → ReadsBelow (cells_of image) states image
+  read image is = subst (λ (l : Layout). ReadsBelow (cells_by l) states image) (sym (here image is).1) (subst (λ (o : Option (List ℕ)). IfSome o (ReadsBelow (cells_by layout) states)) is reads)
 
   -- what was read, before any cell that is left over is cleared
-  read_begins : (image : List ℕ) → disks.contents disk ≡ Some image → Clearing disks mid states states (contents_of image)
+  pub read_begins : (image : List ℕ) → disks.contents disk ≡ Some image → Clearing disks disk (frame_of image) states states (contents_of image)
   read_begins image is = record {
     now = image;
-    is_told = calm.same ∙ is;
-    reads = reads_sound states image (here image is) (read image is);
-    each = λ other left. subst (λ (x : List ℕ). SoundBy Spares states (contents_of image) x) (sym (only image is other (calm.crash other left))) (reads_sound states image (here image is) (read image is));
+    is_told = is;
+    reads = reads_sound states image (read image is);
+    each = λ other left. subst (λ (x : List ℕ). SoundBy (frame_of image) Spares states (contents_of image) x) (sym (only image is other left)) (reads_sound states image (read image is));
     shut = λ cell lt shut. shut;
     unsure = λ cell lt unsure. unsure;
   }
 
-  abbrev pub ClearsWithin : D → Type 0
-  ClearsWithin new = (contents : List Content) → Clearing disks mid states states contents → Within (disks.moment mid) (disks.moment new) (disks.left_since mid) (disks.left_since new) (SoundBy Spares states contents)
+  pub cleared : (image : List ℕ) → disks.contents disk ≡ Some image → (other : List ℕ) → SoundBy (frame_of image) Spares states (contents_of image) other → SparesStore image other
+  cleared image is other s = spares_store states image other (here image is).0 (read image is) s
 
-  -- every image within the calls is what was read, or is spared
-  read_within : (new : D) (P : List ℕ → Type 0) → ClearsWithin new → (image : List ℕ) → disks.contents disk ≡ Some image → ((other : List ℕ) → disks.may_leave disk other → P other) → ((other : List ℕ) → SparesStore image other → P other)
-      → Within (disks.moment disk) (disks.moment new) (disks.left_since disk) (disks.left_since new) P
-  read_within new P within image is old spared =
-      within_both (disks.moment disk) (disks.moment mid) (disks.moment new) (disks.left_since disk) (disks.left_since mid) (disks.left_since new) (disks.may_leave disk) (SoundBy Spares states (contents_of image)) P
-      calm.within (within (contents_of image) (read_begins image is)) old (λ other h. spared other (spares_store states image other (read image is) h))
+  -- every image within the calls is spared
+  abbrev pub SparesWithin : D → Type 0
+  SparesWithin new = (image : List ℕ) → disks.contents disk ≡ Some image → Within (disks.moment disk) (disks.moment new) (disks.left_since disk) (disks.left_since new) (SparesStore image)
 
-  read_spares : (new : D) → ClearsWithin new → IfSome (disks.contents disk) (λ image. IsStoreFile image → WithinSpares (disks.moment disk) (disks.moment new) (disks.left_since disk) (disks.left_since new) (disks.may_leave disk) image)
-  read_spares new within = for_told (disks.contents disk) _ (λ image is store. read_within new (λ other. disks.may_leave disk other ⊎ SparesStore image other) within image is (λ other h. inl h) (λ other h. inr h))
+  pub cleared_within : (new : D) → ((frame : Frame) (contents : List Content) → Clearing disks disk frame states states contents → Within (disks.moment disk) (disks.moment new) (disks.left_since disk) (disks.left_since new) (SoundBy frame Spares states contents)) → SparesWithin new
+  cleared_within new within image is =
+      within_then (disks.moment disk) (disks.moment new) (disks.left_since disk) (disks.left_since new) (SoundBy (frame_of image) Spares states (contents_of image)) (SparesStore image)
+      (within (frame_of image) (contents_of image) (read_begins image is)) (cleared image is)
+
+  read_spares : (new : D) → SparesWithin new → IfSome (disks.contents disk) (λ image. IsStoreFile image → WithinSpares (disks.moment disk) (disks.moment new) (disks.left_since disk) (disks.left_since new) (disks.may_leave disk) image)
+  read_spares new within = for_told (disks.contents disk) _ (λ image is file.
+      within_then (disks.moment disk) (disks.moment new) (disks.left_since disk) (disks.left_since new) (SparesStore image) (λ other. disks.may_leave disk other ⊎ SparesStore image other) (within image is) (λ other h. inr h))
 
   abbrev pub IsNow : Type 0
   IsNow = (image : List ℕ) → disks.left_since disk (disks.moment disk) image → disks.may_leave disk image
 
-  read_since : (new : D) → IsNow → ClearsWithin new → (image : List ℕ) → disks.contents disk ≡ Some image → SparesSinceSync disks disk new image
+  read_since : (new : D) → IsNow → SparesWithin new → (image : List ℕ) → disks.contents disk ≡ Some image → SparesSinceSync disks disk new image
   read_since new only_now within image is =
-      let itself : SparesStore image image = spares_itself image (here image is) in
-      since_sync disks disk disk new image (SparesStore image) (SparesStore image) is (only image is) (omega arith)
-      (read_within new (SparesStore image) within image is (λ other left. subst (SparesStore image) (sym (only image is other left)) itself) (λ other h. h)) only_now itself (λ other h. h)
+      since_sync disks disk disk new image (SparesStore image) (SparesStore image) is (only image is) (omega arith) (within image is) only_now (spares_itself image (here image is).0) (λ other h. h)
 
-  pub read_opened : (new : D) (states' : List CellState) → IsNow → length states ≡ cell_count → states' ≡ settled_states states → HasOneEach cell_count states → IsNumbered cell_count states → IsNamed cell_count states → StillTells (disks.contents mid) (disks.contents new)
-      → ((contents : List Content) → length contents ≡ cell_count → Clearing disks mid states states contents → StandsForContents disks new states' contents) → ClearsWithin new
+  pub read_opened : (new : D) (states' : List CellState) → IsNow → AreFreeFrom (cells_by layout) states → length states ≡ cell_count → states' ≡ settled_states states → HasOneEach cell_count states → IsNumbered cell_count states → IsNamed cell_count states → StillTells (disks.contents disk) (disks.contents new)
+      → ((image : List ℕ) → disks.contents disk ≡ Some image → StandsForContents disks new states' (contents_of image)) → SparesWithin new
       → IsOpened disks disk new states'
-  read_opened new states' only_now count is one numbered named tells stands within = record {
+  read_opened new states' only_now free count is one numbered named tells stands within = record {
     sized = ap length is ∙ (length-map states settled_state ∙ count);
     one = settled_one states states' count is one;
     numbered = settled_numbered states states' count is numbered;
     named = settled_named states states' count is named;
-    tells = tells ∙ ap is_some calm.same;
-    found = of_directory (disks.contents disk) states' (for_told (disks.contents disk) _ (λ image told_is. settled_directory states states' count is image (here image told_is) (read image told_is) one));
-    stands = of_store (disks.contents disk) (λ image contents. StandsForContents disks new states' contents) (for_told (disks.contents disk) _ (λ image told_is. (here image told_is, stands (contents_of image) (length-contents_of image) (read_begins image told_is))));
+    tells = tells;
+    found = of_directory (disks.contents disk) states' (for_told (disks.contents disk) _ (λ image told_is.
+        settled_directory states states' count is image (here image told_is).0 (read image told_is) (subst (λ (l : Layout). AreFreeFrom (cells_by l) states) (sym (here image told_is).1) free) one));
+    stands = of_store (disks.contents disk) (λ image contents. StandsForContents disks new states' contents) (for_told (disks.contents disk) _ (λ image told_is. ((here image told_is).0, stands image told_is)));
     spares = read_spares new within;
     since_sync = for_told (disks.contents disk) _ (λ image told_is file. read_since new only_now within image told_is);
-    blank = for_told (disks.contents disk) _ (λ image told_is none. absurd (omega (arith, (here image told_is).size, ap length none)));
+    blank = for_told (disks.contents disk) _ (λ image told_is none. absurd (omega (arith, store_long image (here image told_is).0, ap length none)));
+    keys = for_told (disks.contents disk) _ (λ image told_is opens clean. keys_since disks disk new image (read_since new only_now within image told_is) opens clean);
   }
 
-  pub read_refused : (new : D) → IsNow → IfSome (disks.contents new) (disks.may_leave new) → StillTells (disks.contents mid) (disks.contents new) → disks.faults disk ≤ disks.faults new → Rose (disks.faults disk) (disks.faults new)
-      → ((contents : List Content) → Clearing disks mid states states contents → (image : List ℕ) → disks.may_leave new image → SoundBy Spares states contents image) → ClearsWithin new
-      → IsOpeningRefused disks disk new Disk
-  read_refused new only_now read_now tells later rose left within = record {
-    tells = tells ∙ ap is_some calm.same;
+  read_opens : HasOneEach cell_count states → (image : List ℕ) → disks.contents disk ≡ Some image → Opens image
+  read_opens one image is = record { store = (here image is).0; sound = λ cell lt damaged. not_damaged (cells_of image) states image (read image is) (λ id c other less less'. one id c other (omega (arith, less, cells_most image)) (omega (arith, less', cells_most image))) cell lt damaged }
+
+  pub read_refused : (new : D) (fault : OpenFault) → IsNow → HasOneEach cell_count states → (IsRefusal fault → ⊥) → IfSome (disks.contents new) (disks.may_leave new) → StillTells (disks.contents disk) (disks.contents new) → disks.faults disk ≤ disks.faults new → (IsDisk fault → Rose (disks.faults disk) (disks.faults new))
+      → ((image : List ℕ) → disks.contents disk ≡ Some image → (other : List ℕ) → disks.may_leave new other → SparesStore image other) → SparesWithin new
+      → IsOpeningRefused disks disk new fault
+  read_refused new fault only_now one other_fault read_now tells later rose left within = record {
+    tells = tells;
     later = later;
-    calm = λ is. absurd is;
-    caused = for_told (disks.contents disk) _ (λ image is. tt);
-    rose = λ is. rose;
-    durable = λ is. absurd is;
+    calm = λ is. absurd (other_fault is);
+    caused = for_told (disks.contents disk) _ (λ image is. others_fault fault image other_fault);
+    rose = rose;
+    durable = λ is. absurd (other_fault is);
     spares = read_spares new within;
-    left = for_told (disks.contents disk) _ (λ image is file. inr (spared image is));
-    wrote = for_told (disks.contents disk) _ (λ image is. inr (inl (here image is, read_since new only_now within image is)));
-    spares_read = for_told (disks.contents disk) _ (λ image is file. some_weaker (disks.contents new) (disks.may_leave new) (SparesStore image) (λ other has. spared image is other has) read_now);
-    blank_read = for_told (disks.contents disk) _ (λ image is none. absurd (omega (arith, (here image is).size, ap length none)));
+    left = for_told (disks.contents disk) _ (λ image is file. inr (left image is));
+    wrote = for_told (disks.contents disk) _ (λ image is. inr (inl (read_opens one image is, read_since new only_now within image is)));
+    keys = for_told (disks.contents disk) _ (λ image is opens clean. inr (keys_since disks disk new image (read_since new only_now within image is) opens clean));
+    spares_read = for_told (disks.contents disk) _ (λ image is file. some_weaker (disks.contents new) (disks.may_leave new) (SparesStore image) (λ other has. left image is other has) read_now);
+    blank_read = for_told (disks.contents disk) _ (λ image is none. absurd (omega (arith, store_long image (here image is).0, ap length none)));
   }
-    where
-      spared : (image : List ℕ) → disks.contents disk ≡ Some image → (other : List ℕ) → disks.may_leave new other → SparesStore image other
-      spared image is other has = spares_store states image other (read image is) (left (contents_of image) (read_begins image is) other has)
 
 -- nothing is pending still
 pub durable_still : {D : Type 0} (disks : Disk.Ghosts D) (old new : D) → LeavesWhatIsRead (disks.contents old) (disks.may_leave old) → NoNewImage (disks.may_leave old) (disks.may_leave new) → LeavesWhatIsRead (disks.contents old) (disks.may_leave new)
@@ -372,6 +430,13 @@ told_nothing None = tt
 told_nothing (Some image) = tt
 
 -- a length that is neither 0 nor a store's
-pub no_store_of : (o : Option (List ℕ)) (size : ℕ) → (size ≡ 0 → ⊥) → (size ≡ store_size → ⊥) → IfSome o (λ image. length image ≡ size) → IfSome o (λ image. IsOpenFaultOf NotAStore image)
+pub no_store_of : (o : Option (List ℕ)) (size : ℕ) → (size ≡ 0 → ⊥) → ((older_size ≤ size) → (size ≤ store_size) → ⊥) → IfSome o (λ image. length image ≡ size) → IfSome o (λ image. IsOpenFaultOf NotAStore image)
 no_store_of None size some other measured = tt
-no_store_of (Some image) size some other measured = record { some = λ none. some (sym measured ∙ none); other = λ store. other (sym measured ∙ store.size) }
+no_store_of (Some image) size some other measured = record {
+  some = λ none. some (sym measured ∙ none);
+  other = λ store. other (omega (arith, measured, store_long image store)) (by (layout_of image) store.size);
+}
+  where
+    by : (l : Layout) → HasSize l (length image) → size ≤ store_size
+    by Older h = omega (arith, h.1, measured)
+    by Current h = omega (arith, h, measured)

@@ -1,6 +1,5 @@
 -- The body of a cell that has a key: all that stands behind its first byte.
-use Rattle.std.specs.Prelude.{◌≡◌, ◌≤◌, ◌-◌, ℕ, List, ◌++◌, length, replicate, take, drop}
-use Rattle.std.specs.Int.{w32, to_le_bytes}
+use Rattle.std.specs.{Prelude.◌≡◌, Prelude.◌≤◌, Prelude.◌-◌, Prelude.ℕ, Prelude.List, Prelude.◌++◌, Prelude.length, Prelude.replicate, Prelude.take, Prelude.drop, Int.w32, Int.to_le_bytes}
 use Rattle.key_attributes.specs.declared.Attributes.{Attributes}
 use Rattle.key_record.specs.Record.{IsKept, spelling}
 

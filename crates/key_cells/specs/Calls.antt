@@ -1,15 +1,10 @@
 -- What a call makes of whatever the cells stand for.
 use Rattle.disk_face.specs.declared.Disk as Disk
 use Rattle.std.specs.Prelude.{◌≡◌, ℕ, true, List, length, set}
-use Rattle.disk_face.specs.Disk.{Torn}
-use Rattle.disk_face.specs.Moments.{Within, written}
+use Rattle.disk_face.specs.{Disk.Torn, Moments.Within, Moments.written}
 use Rattle.key_attributes.specs.declared.Attributes.{Attributes}
-use Rattle.key_cells.specs.declared.state.CellState.{CellState}
-use Rattle.key_cells.specs.declared.cells.Cells.{Cells}
-use Rattle.key_cells.specs.Contents.{Content, Absent, Present, Doubtful, Sound, SoundBy, StandsForContents, Moves, MovesEither, CreationFailed, settled, content_at, cell_state, has_id}
-use Rattle.key_cells.specs.Opening.{Clearing, ClearsOn, Spares}
-use Rattle.key_cells.specs.Body.{HoldsKey, HoldsId}
-use Rattle.key_cells.specs.Layout.{cell_count}
+use Rattle.key_cells.specs.{declared.state.CellState.CellState, declared.cells.Cells.Cells, Contents.Content, Contents.Absent, Contents.Present, Contents.Doubtful, Contents.Frame, Contents.Sound, Contents.SoundBy, Contents.StandsForContents, Contents.Moves, Contents.MovesEither, Contents.CreationFailed, Contents.settled, Contents.content_at, Contents.cell_state, Contents.has_id, Layout.cell_count}
+use Rattle.key_cells.specs.{Opening.Clearing, Opening.ClearsOn, Opening.Spares, Body.HoldsKey, Body.HoldsId}
 
 module _ {D : Type 0} (disks : Disk.Ghosts D) where
   -- the disk and the directory of the cells stand for these contents
@@ -31,8 +26,8 @@ module _ {D : Type 0} (disks : Disk.Ghosts D) where
       (before image : List ℕ) → Sound cells.states contents before → Torn place (length bytes) before image → Sound cells.states contents image
 
   -- none of the cells that are left over from a crash was made zeros so far
-  abbrev pub BeginsClearing : Cells D → List Content → Type 0
-  BeginsClearing cells contents = Clearing disks cells.disk cells.states cells.states contents
+  abbrev pub BeginsClearing : Cells D → Frame → List Content → Type 0
+  BeginsClearing cells frame contents = Clearing disks cells.disk frame cells.states cells.states contents
 
   module _ (old new : Cells D) where
     -- the content of one cell changes
@@ -66,13 +61,13 @@ module _ {D : Type 0} (disks : Disk.Ghosts D) where
 
     -- a step of making those cells zeros that are left over
     abbrev pub GoesOnClearing : Type 0
-    GoesOnClearing = (first : List CellState) (contents : List Content) → Clearing disks old.disk first old.states contents →
-        ClearsOn disks old.disk new.disk first new.states contents
+    GoesOnClearing = (frame : Frame) (first : List CellState) (contents : List Content) → Clearing disks old.disk frame first old.states contents →
+        ClearsOn disks old.disk new.disk frame first new.states contents
 
     -- every image within calls has each open cell byte for byte
-    abbrev pub SparesWithin : List CellState → List Content → Type 0
-    SparesWithin first contents =
-        Within (disks.moment old.disk) (disks.moment new.disk) (disks.left_since old.disk) (disks.left_since new.disk) (SoundBy Spares first contents)
+    abbrev pub SparesWithin : Frame → List CellState → List Content → Type 0
+    SparesWithin frame first contents =
+        Within (disks.moment old.disk) (disks.moment new.disk) (disks.left_since old.disk) (disks.left_since new.disk) (SoundBy frame Spares first contents)
 
     -- a write was made sure of, or failed: it leads on where what is torn of it shows what the directory says
     abbrev pub Writes : ℕ → List ℕ → List CellState → Type 0

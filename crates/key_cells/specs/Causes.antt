@@ -1,8 +1,6 @@
 -- What an opening is refused for.
 use Rattle.std.specs.Prelude.{ℕ, List, ⊤}
-use Rattle.key_cells.specs.declared.reading.OpenFault.{OpenFault}
-use Rattle.key_cells.specs.declared.reading.OpenFault.TheVariants.{NotAStore, DamagedCell, Disk}
-use Rattle.key_cells.specs.Image.{IsNoStore, IsFirstDamaged}
+use Rattle.key_cells.specs.{declared.reading.OpenFault.OpenFault, declared.reading.OpenFault.TheVariants.NotAStore, declared.reading.OpenFault.TheVariants.DamagedCell, declared.reading.OpenFault.TheVariants.Disk, Image.IsNoStore, Image.IsFirstDamaged}
 
 -- what the image has then
 abbrev pub IsOpenFaultOf : OpenFault → List ℕ → Type 0

@@ -1,13 +1,7 @@
 -- What the directory in memory keeps beside the states of the cells.
-use Rattle.std.specs.Prelude.{◌≡◌, ◌<◌, ◌+◌, ℕ, Bool, true, false, List, ◌∷◌, length, count_by, cond}
-use Rattle.std.specs.List.Sorted.{IsPermutation}
-use Rattle.key_index.specs.Index.{IsIndexOf}
-use Rattle.key_index.specs.declared.index.Entry.{Entry}
-use Rattle.key_cells.specs.declared.state.CellState.{CellState}
-use Rattle.key_cells.specs.declared.state.CellState.TheVariants.{Open, Shut, Unsure}
-use Rattle.key_cells.specs.Layout.{cell_count}
-use Rattle.key_cells.specs.Contents.{cell_state, has_id, is_open}
-use Rattle.key_cells.specs.Opening.{HasOneEach}
+use Rattle.std.specs.{Prelude.◌≡◌, Prelude.◌<◌, Prelude.◌+◌, Prelude.◌/◌, Prelude.◌^◌, Prelude.◌==◌, Prelude.ℕ, Prelude.Bool, Prelude.true, Prelude.false, Prelude.List, Prelude.◌∷◌, Prelude.length, Prelude.count_by, Prelude.cond, List.Sorted.IsPermutation}
+use Rattle.key_index.specs.{Index.IsIndexOf, declared.index.Entry.Entry}
+use Rattle.key_cells.specs.{declared.state.CellState.CellState, declared.state.CellState.TheVariants.Open, declared.state.CellState.TheVariants.Shut, declared.state.CellState.TheVariants.Unsure, Layout.cell_count, Contents.cell_state, Contents.has_id, Contents.is_open, Opening.HasOneEach}
 
 -- a cell is in doubt: closed, or to be closed, and not known to be all zeros
 abbrev pub is_in_doubt : CellState → Bool
@@ -15,12 +9,22 @@ is_in_doubt Shut = true
 is_in_doubt Unsure = true
 is_in_doubt _ = false
 
+-- a state has a key whose identifier passes a test
+abbrev pub has_id_by : (ℕ → Bool) → CellState → Bool
+has_id_by passes (Open id creation) = passes id
+has_id_by passes _ = false
+
+-- or is of a range: identifiers of one range have the same quotient by 2^26
+abbrev pub is_of_range : ℕ → CellState → Bool
+is_of_range range state = has_id_by (λ id. id / 2 ^ 26 == range) state
+
 -- a row has each open cell by the identifier of its key, each cell before this one is open, and so many are in doubt
 pub record AreIndexed (states : List CellState) (entries : List Entry) (first left : ℕ) : Type 0 where
   pub sized : length states ≡ cell_count
   pub index : IsIndexOf (λ id cell. has_id id (cell_state states cell)) entries
   pub once : HasOneEach cell_count states
   pub counted : length entries ≡ count_by is_open states
+  pub passing : (passes : ℕ → Bool) → count_by (λ entry. passes entry.id) entries ≡ count_by (has_id_by passes) states
   pub before : (cell : ℕ) → cell < first → is_open (cell_state states cell) ≡ true
   pub in_doubt : left ≡ count_by is_in_doubt states
 

@@ -1,14 +1,8 @@
 -- What an inspection of an image gives, or refuses it for.
-use Rattle.std.specs.Prelude.{◌≡◌, ◌<◌, ◌-◌, ◌++◌, ℕ, List, [], ◌∷◌, length, map, take, drop, count_by, Option, None, Some, ⊤}
-use Rattle.std.specs.List.{range_with_len, slice_get}
+use Rattle.std.specs.{Prelude.◌≡◌, Prelude.◌<◌, Prelude.◌-◌, Prelude.◌++◌, Prelude.ℕ, Prelude.List, Prelude.[], Prelude.◌∷◌, Prelude.length, Prelude.map, Prelude.take, Prelude.drop, Prelude.count_by, Prelude.Option, Prelude.None, Prelude.Some, Prelude.⊤, List.range_with_len, List.slice_get}
 use Rattle.secret_bytes.specs.Buffer.{bytes_of}
 use Rattle.key_attributes.specs.declared.Attributes.{Attributes}
-use Rattle.key_cells.specs.declared.inspecting.FoundKey.{FoundKey}
-use Rattle.key_cells.specs.declared.inspecting.InspectFault.{InspectFault}
-use Rattle.key_cells.specs.declared.inspecting.InspectFault.TheVariants.{NotAStore, DamagedCell, Memory}
-use Rattle.key_cells.specs.Layout.{cell_count, gate, body}
-use Rattle.key_cells.specs.Body.{HoldsKey}
-use Rattle.key_cells.specs.Image.{IsOpen, IsStoreFile, IsFirstDamaged}
+use Rattle.key_cells.specs.{declared.inspecting.FoundKey.FoundKey, declared.inspecting.InspectFault.InspectFault, declared.inspecting.InspectFault.TheVariants.NotAStore, declared.inspecting.InspectFault.TheVariants.DamagedCell, declared.inspecting.InspectFault.TheVariants.Memory, Layout.cells_of, Layout.gate, Layout.body, Body.HoldsKey, Image.IsOpen, Image.IsStoreFile, Image.IsFirstDamaged}
 use Rattle.key_cells.specs.Opening.{is_opened}
 
 -- how many of the first so many cells are open
@@ -27,7 +21,7 @@ pub record AreFirstKeys (count : ℕ) (keys : List FoundKey) (image : List ℕ) 
 
 -- all keys of an image, in the order of its cells
 abbrev pub AreKeysOf : List FoundKey → List ℕ → Type 0
-AreKeysOf keys image = AreFirstKeys cell_count keys image
+AreKeysOf keys image = AreFirstKeys (cells_of image) keys image
 
 -- what an image is refused for: it is no store, or its first damaged cell is this one
 abbrev pub IsInspectFaultOf : InspectFault → List ℕ → Type 0

@@ -2,14 +2,8 @@
 use Rattle.disk_face.specs.declared.Disk as Disk
 use Rattle.std.specs.Prelude.{◌≡◌, ◌≤◌, ◌⊎◌, ℕ, List, [], length, replicate, Some, IfSome}
 use Rattle.psa_status.specs.Causes.{Rose}
-use Rattle.disk_face.specs.Disk.{NoNewImage, LeavesWhatIsRead, StillTells}
-use Rattle.disk_face.specs.Moments.{Within}
-use Rattle.key_cells.specs.declared.state.CellState.{CellState}
-use Rattle.key_cells.specs.declared.reading.OpenFault.{OpenFault}
-use Rattle.key_cells.specs.Layout.{blank_store, cell_count}
-use Rattle.key_cells.specs.Contents.{StandsForContents}
-use Rattle.key_cells.specs.Image.{HasNoOpenCell, IsStoreFile, SparesStore}
-use Rattle.key_cells.specs.Causes.{IsOpenFaultOf, IsDisk, IsRefusal}
+use Rattle.disk_face.specs.{Disk.NoNewImage, Disk.LeavesWhatIsRead, Disk.StillTells, Moments.Within}
+use Rattle.key_cells.specs.{declared.state.CellState.CellState, declared.reading.OpenFault.OpenFault, Layout.blank_store, Layout.cell_count, Contents.StandsForContents, Image.HasNoOpenCell, Image.HoldsSameKeys, Image.HasZerosWhereClosed, Image.IsStoreFile, Image.Opens, Image.SparesStore, Causes.IsOpenFaultOf, Causes.IsDisk, Causes.IsRefusal}
 use Rattle.key_cells.specs.Opening.{found_in, IsFoundIn, HasOneEach, IsNumbered, IsNamed, WithinSpares}
 
 -- calls that wrote nothing
@@ -32,19 +26,25 @@ pub record HoldsSinceSync {D : Type 0} (disks : Disk.Ghosts D) (old new : D) (by
 abbrev pub SparesSinceSync : {D : Type 0} → Disk.Ghosts D → D → D → List ℕ → Type 0
 SparesSinceSync disks old new image = HoldsSinceSync disks old new image (SparesStore image)
 
+-- or can be opened, and has its keys
+abbrev pub KeepsKeysSinceSync : {D : Type 0} → Disk.Ghosts D → D → D → List ℕ → Type 0
+KeepsKeysSinceSync disks old new image = HoldsSinceSync disks old new image (HoldsSameKeys image)
+
 -- since its zeros were made sure of, no image of a new file has an open cell
 abbrev pub IsBlankSinceSync : {D : Type 0} → Disk.Ghosts D → D → D → Type 0
 IsBlankSinceSync disks old new = HoldsSinceSync disks old new blank_store HasNoOpenCell
 
--- What an opening wrote that was refused: nothing; or it cleared cells of a store; or it lengthened a new file by zeros,
+-- What an opening wrote that was refused: nothing; or it cleared cells of a store without a damaged one, and made it grow;
+-- or it lengthened a new file by zeros,
 -- which are what is read, or were made sure of.
 abbrev pub WritesItsOwn : {D : Type 0} → Disk.Ghosts D → D → D → List ℕ → Type 0
 WritesItsOwn disks old new image =
     Calm disks old new
-    ⊎ (IsStoreFile image × SparesSinceSync disks old new image)
+    ⊎ (Opens image × SparesSinceSync disks old new image)
     ⊎ ((image ≡ []) × (IfSome (disks.contents new) (λ read. read ≡ replicate (length read) 0) ⊎ IsBlankSinceSync disks old new))
 
--- An opening found exactly the keys of the disk's image, and nothing is in doubt. Of a store that was there, every
+-- An opening found exactly the keys of the disk's image, and nothing is in doubt. Where each closed cell was all zeros, each
+-- image since its first sync can be opened and has these keys. Of a store that was there, every
 -- image within the opening has each open cell byte for byte, or might have been left before the opening, and since its
 -- first sync each has them; of a new file no image has an open cell since its zeros were made sure of.
 pub record IsOpened {D : Type 0} (disks : Disk.Ghosts D) (old new : D) (states : List CellState) : Type 0 where
@@ -58,6 +58,7 @@ pub record IsOpened {D : Type 0} (disks : Disk.Ghosts D) (old new : D) (states :
   pub spares : IfSome (disks.contents old) (λ image. IsStoreFile image → WithinSpares (disks.moment old) (disks.moment new) (disks.left_since old) (disks.left_since new) (disks.may_leave old) image)
   pub since_sync : IfSome (disks.contents old) (λ image. IsStoreFile image → SparesSinceSync disks old new image)
   pub blank : IfSome (disks.contents old) (λ image. image ≡ [] → IsBlankSinceSync disks old new)
+  pub keys : IfSome (disks.contents old) (λ image. Opens image → HasZerosWhereClosed image → KeepsKeysSinceSync disks old new image)
 
 -- An opening was refused: for what the image has, and then nothing was written and nothing is pending, or for a fault
 -- of the disk or of memory. What was written is the opening's own.
@@ -71,5 +72,6 @@ pub record IsOpeningRefused {D : Type 0} (disks : Disk.Ghosts D) (old new : D) (
   pub spares : IfSome (disks.contents old) (λ image. IsStoreFile image → WithinSpares (disks.moment old) (disks.moment new) (disks.left_since old) (disks.left_since new) (disks.may_leave old) image)
   pub left : IfSome (disks.contents old) (λ image. IsStoreFile image → NoNewImage (disks.may_leave old) (disks.may_leave new) ⊎ ((other : List ℕ) → disks.may_leave new other → SparesStore image other))
   pub wrote : IfSome (disks.contents old) (λ image. WritesItsOwn disks old new image)
+  pub keys : IfSome (disks.contents old) (λ image. Opens image → HasZerosWhereClosed image → Calm disks old new ⊎ KeepsKeysSinceSync disks old new image)
   pub spares_read : IfSome (disks.contents old) (λ image. IsStoreFile image → IfSome (disks.contents new) (SparesStore image))
   pub blank_read : IfSome (disks.contents old) (λ image. image ≡ [] → IfSome (disks.contents new) HasNoOpenCell)

@@ -1,6 +1,5 @@
 // The body of a cell that has a key.
-ghost use Rattle.std.specs.Prelude.{◌≡◌, ◌≤◌, ◌+◌, ◌-◌, ◌++◌, ◌↔◌, ℕ, List, length, take, drop, replicate, MatchOption, IsTrue};
-ghost use Rattle.std.specs.Int.{w32, from_le_bytes};
+ghost use Rattle.std.specs.{Prelude.◌≡◌, Prelude.◌≤◌, Prelude.◌+◌, Prelude.◌-◌, Prelude.◌++◌, Prelude.◌↔◌, Prelude.ℕ, Prelude.List, Prelude.length, Prelude.take, Prelude.drop, Prelude.replicate, Prelude.MatchOption, Prelude.IsTrue, Int.w32, Int.from_le_bytes};
 ghost use Rattle.disk_face.specs.Moments.{written};
 ghost use Rattle.key_cells.specs.Body.{IsPersistent, IsKeyOf, front_of, body_of, HoldsNoKey, HasKeyUpTo, IsOfOneKey};
 

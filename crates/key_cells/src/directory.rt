@@ -1,15 +1,17 @@
 // The directory in memory.
 ghost use Rattle.std.specs.Prelude.{◌≡◌, ◌≢◌, ◌<◌, ◌⊎◌, ◌↔◌, true, ℕ, length, set, replicate, count_by, IfOk, MatchOption, IsTrue};
 ghost use Rattle.key_index.specs.Index.{IsAlone, entries_of};
-ghost use Rattle.key_cells.specs.declared.state.CellState.TheVariants.{Free};
-ghost use Rattle.key_cells.specs.{Layout.cell_count, Contents.cell_state, Contents.has_id, Contents.is_open, Contents.IsSure, Contents.IsFull, Contents.IsFirstWithoutKey, Contents.HasNoKey, Contents.IsFirstWithKey, Directory.HasBeside, Directory.is_in_doubt};
+ghost use Rattle.key_cells.specs.{declared.state.CellState.TheVariants.Free, Layout.cell_count, Contents.cell_state, Contents.has_id, Contents.is_open, Contents.IsSure, Contents.IsFull, Contents.IsFirstWithoutKey, Contents.HasNoKey, Contents.IsFirstWithKey, Directory.HasBeside, Directory.is_in_doubt, Directory.is_of_range};
 
 use crate::CellState;
-use crate::cells::CELLS;
+use crate::layout::CELLS;
 use key_index::KeyIndex;
 use psa_status::Memory;
 use std::alloc::Global;
 use std::marker::Model;
+
+/// How many identifiers a range has.
+const RANGE: u64 = 1 << 26;
 
 /// What is known of each cell. No two have keys of one identifier.
 #[derive(Drop)]
@@ -147,6 +149,14 @@ impl Directory {
         ensures { IsTrue result ↔ IsSure self.now }
     {
         self.in_doubt == 0
+    }
+
+    /// How many keys have an identifier of a range.
+    pub fn in_range(&self, range: u32) -> usize
+        ensures { result ≡ count_by (is_of_range range) self.now }
+    {
+        let first = range as u64 * RANGE;
+        self.index.count_between(first, first + (RANGE - 1))
     }
 
     /// How many cells are open.

@@ -1,12 +1,12 @@
 // The keys of an image of a store file, without a disk.
-ghost use Rattle.std.specs.Prelude.{◌≡◌, ◌≤◌, ◌<◌, ◌↔◌, ◌⊎◌, ◌+◌, ◌*◌, List, ℕ, length, IfOk, IfErr, OnOk, IsErrOf, IsTrue};
-ghost use Rattle.key_cells.specs.{Image.IsStoreFile, Image.Opens, Image.IsFirstDamaged, Layout.part, Layout.store_size, Opening.ReadsKey, Inspected.AreKeysOf, Inspected.IsInspectFaultOf, Inspected.KeepsKey};
-ghost use Rattle.key_cells.specs.declared.inspecting.InspectFault.TheVariants.{DamagedCell};
+ghost use Rattle.std.specs.Prelude.{◌≡◌, ◌≤◌, ◌<◌, ◌↔◌, ◌⊎◌, ◌+◌, ◌*◌, List, ℕ, length, IfOk, IfErr, OnOk, IsErrOf, MatchOption};
+ghost use Rattle.key_cells.specs.{Image.IsStoreFile, Image.IsStoreOf, Image.Opens, Image.IsFirstDamaged, Layout.cell_count, Layout.cells_of, Layout.part, Layout.place, Opening.ReadsKey, Inspected.AreKeysOf, Inspected.IsInspectFaultOf, Inspected.KeepsKey, declared.inspecting.InspectFault.TheVariants.DamagedCell};
 ghost use Rattle.secret_bytes.specs.Buffer.{bytes_of};
 
-use crate::cells::{CELLS, STORE_SIZE, place};
+use crate::cells::place;
 use crate::directory::Directory;
-use crate::reading::{CellRead, cell_at, decode, is_header};
+use crate::layout::{Layout, read_layout};
+use crate::reading::{CellRead, cell_at, decode};
 use key_attributes::Attributes;
 use psa_status::Memory;
 use secret_bytes::Secret;
@@ -37,16 +37,19 @@ impl From<Memory> for InspectFault {
     }
 }
 
-// Whether an image has the length and the header of a store.
-fn is_store(image: &[u8]) -> bool
-    ensures { IsTrue result ↔ IsStoreFile image.now }
+// The layout of an image; none where it is no store's.
+fn layout_in(image: &[u8]) -> Option<Layout>
+    ensures { MatchOption result (IsStoreFile image.now → ⊥) (λ layout. IsStoreOf layout image.now) }
 {
-    image.len() as u64 == STORE_SIZE && is_header(&head_of(image))
+    if image.len() < 64 {
+        return None;
+    }
+    read_layout(&head_of(image), image.len() as u64)
 }
 
 // Its header.
 fn head_of(image: &[u8]) -> [u8; 64]
-    requires { length image.now ≡ store_size }
+    requires { 64 ≤ length image.now }
     ensures { result ≡ part 0 64 image.now }
 {
     let mut head = [0; 64];
@@ -97,15 +100,18 @@ pub fn inspect(alloc: Global, image: &[u8]) -> Result<Vec<FoundKey>, InspectFaul
     ensures no_store { (IsStoreFile image.now → ⊥) → IsErrOf result InspectFault.NotAStore }
     ensures damaged { (cell : ℕ) → IsFirstDamaged image.now cell → IsErrOf result (DamagedCell cell) ⊎ IsErrOf result InspectFault.Memory }
 {
-    if !is_store(image) {
+    let Some(layout) = layout_in(image) else {
         return Err(InspectFault::NotAStore);
-    }
-    read_keys(alloc, image)
+    };
+    read_keys(alloc, image, layout.cells())
 }
 
 // The keys of a store's image.
-fn read_keys(alloc: Global, image: &[u8]) -> Result<Vec<FoundKey>, InspectFault>
+fn read_keys(alloc: Global, image: &[u8], cells: usize) -> Result<Vec<FoundKey>, InspectFault>
     requires store { IsStoreFile image.now }
+    requires cells { cells ≡ cells_of image.now }
+    requires few { cells ≤ cell_count }
+    requires fits { place cells ≤ length image.now }
     ensures opens { OnOk result (Opens image.now) }
     ensures keys { IfOk result (λ keys. AreKeysOf keys.items image.now) }
     ensures fault { IfErr result (λ fault. IsInspectFaultOf fault image.now) }
@@ -113,7 +119,7 @@ fn read_keys(alloc: Global, image: &[u8]) -> Result<Vec<FoundKey>, InspectFault>
 {
     let mut states = Directory::new(alloc)?;
     let mut keys = Vec::new(alloc);
-    for cell in 0..CELLS {
+    for cell in 0..cells {
         let room = cell_at(image, place(cell) as usize);
         let Some(read) = decode(room, &states, keys.len() as u64) else {
             return Err(InspectFault::DamagedCell { cell });

@@ -3,12 +3,13 @@ ghost use Rattle.std.specs.Prelude.{◌≡◌, ◌≢◌, ◌≤◌, drop, false
 ghost use Rattle.psa_status.specs.Causes.{HasCause, Rose};
 ghost use Rattle.disk_face.specs.Disk.{NoNewImage, Elapses};
 ghost use Rattle.key_cells.specs.declared.state.CellState.TheVariants.{Free};
-ghost use Rattle.key_cells.specs.{Contents.is_open, Image.IsStoreFile, Opening.GivesBlock, Opening.GivesPart, Opening.IsBadCell, Opening.Reads, Opening.ReadsCell, Opening.ReadsKey, Opening.ReadsBelow, Opening.HasOneEach, Opening.IsNumbered, Opening.IsNamed, Causes.IsOpenFaultOf, Causes.IsDisk, Opened.Calm, Layout.opened_gate, Layout.header, Layout.part, Layout.cell_count, Layout.store_size};
+ghost use Rattle.key_cells.specs.{Contents.is_open, Image.IsStoreFile, Image.IsStoreOf, Opening.AreFreeFrom, Opening.GivesBlock, Opening.GivesPart, Opening.IsBadCell, Opening.Reads, Opening.ReadsCell, Opening.ReadsKey, Opening.ReadsBelow, Opening.HasOneEach, Opening.IsNumbered, Opening.IsNamed, Causes.IsOpenFaultOf, Causes.IsDisk, Opened.Calm, Layout.HasSize, Layout.opened_gate, Layout.older_size, Layout.part, Layout.place, Layout.cell_count, Layout.cells_by, Layout.cells_of, Layout.store_size};
 
 use crate::CellState;
 use crate::body::{is_zero, read_key};
-use crate::cells::{CELLS, CLOSED, OPENED, place};
+use crate::cells::{CLOSED, OPENED, place};
 use crate::directory::Directory;
+use crate::layout::{Layout, read_layout};
 use disk_face::Disk;
 use key_attributes::Attributes;
 use psa_status::Failed;
@@ -41,8 +42,8 @@ pub fn cell_at(bytes: &[u8], place: usize) -> &[u8; 1088]
 // Reads a block of cells, where one begins with this cell; else its block has been read.
 #[tactic(auto, using(crate::proofs::Opened::calm_none, crate::proofs::Opened::calm_one))]
 fn read_block<D: Disk>(disk: &mut D, cell: usize, block: &mut [u8]) -> Result<(), Failed>
-    requires size { D.size disk.old ≡ store_size }
     requires within { cell < cell_count }
+    requires size { cell % 64 ≡ 0 → place cell + 69632 ≤ D.size disk.old }
     requires room { length block.old ≡ 69632 }
     requires read { cell % 64 ≢ 0 → GivesBlock (D.contents disk.old) cell block.old }
     ensures bytes { OnOk result (GivesBlock (D.contents disk.old) cell block.new) }
@@ -123,24 +124,10 @@ fn counted(found: u64, state: &CellState) -> u64
     if state.has_key() { found + 1 } else { found }
 }
 
-/// Whether these are the header's bytes.
-pub fn is_header(bytes: &[u8; 64]) -> bool
-    ensures { IsTrue result ↔ (bytes.now ≡ header) }
-{
-    *bytes == HEADER
-}
-
-/// The header of each store.
-pub const HEADER: [u8; 64] = [
-    b'P', b'S', b'A', b'S', b'T', b'O', b'R', b'E', 1, 0, 0, 0, 0, 0, 0, 0, 0, 0, 0, 0, 0, 0, 0, 0,
-    0, 0, 0, 0, 0, 0, 0, 0, 0, 0, 0, 0, 0, 0, 0, 0, 0, 0, 0, 0, 0, 0, 0, 0, 0, 0, 0, 0, 0, 0, 0, 0,
-    0, 0, 0, 0, 0, 0, 0, 0,
-];
-
 // Reads the header.
 #[tactic(auto, using(crate::proofs::Opened::calm_one))]
 fn read_header<D: Disk>(disk: &mut D) -> Result<[u8; 64], Failed>
-    requires { D.size disk.old ≡ store_size }
+    requires { 64 ≤ D.size disk.old }
     ensures bytes { IfOk result (λ bytes. GivesPart (D.contents disk.old) 0 64 bytes) }
     ensures size { D.size disk.new ≡ D.size disk.old }
     ensures calm { Calm D.Disk disk.old disk.new }
@@ -160,60 +147,70 @@ pub enum OpenFault {
     Memory,
 }
 
-/// Reads the header and the cells, and writes nothing. The bytes of the last cells are left in the room for a block.
+/// Reads the header and the cells of a file of so many bytes, and writes nothing. The bytes of the last cells are left in
+/// the room for a block.
 #[tactic(auto, using(crate::proofs::Opened::calm_both))]
 pub fn read_store<D: Disk>(
     disk: &mut D,
+    size: u64,
     states: &mut Directory,
     block: &mut [u8],
-) -> Result<(), OpenFault>
-    requires size { D.size disk.old ≡ store_size }
+) -> Result<Layout, OpenFault>
+    requires size { D.size disk.old ≡ size }
+    requires enough { older_size ≤ size }
     requires states { states.old ≡ replicate cell_count Free }
     requires room { length block.old ≡ 69632 }
-    ensures store { OnOk result (IfSome (D.contents disk.old) (λ image. IsStoreFile image)) }
-    ensures read { OnOk result (IfSome (D.contents disk.old) (λ image. ReadsBelow cell_count states.new image)) }
+    ensures fits { IfOk result (λ layout. HasSize layout size) }
+    ensures store { IfOk result (λ layout. IfSome (D.contents disk.old) (IsStoreOf layout)) }
+    ensures read { IfOk result (λ layout. IfSome (D.contents disk.old) (ReadsBelow (cells_by layout) states.new)) }
+    ensures beyond { IfOk result (λ layout. AreFreeFrom (cells_by layout) states.new) }
     ensures one { OnOk result (HasOneEach cell_count states.new) }
     ensures numbered { OnOk result (IsNumbered cell_count states.new) }
     ensures named { OnOk result (IsNamed cell_count states.new) }
     ensures states { length states.new ≡ cell_count }
     ensures cause { IfErr result (λ fault. IfSome (D.contents disk.old) (λ image. IsOpenFaultOf fault image)) }
-    ensures size { D.size disk.new ≡ store_size }
+    ensures size { D.size disk.new ≡ size }
     ensures calm { Calm D.Disk disk.old disk.new }
     ensures disk { IfErr result (λ fault. IsDisk fault → Rose (D.faults disk.old) (D.faults disk.new)) }
 {
-    let bytes = match read_header(disk) {
-        Ok(bytes) => bytes,
+    let header = match read_header(disk) {
+        Ok(header) => header,
         Err(Failed) => return Err(OpenFault::Disk),
     };
-    if !is_header(&bytes) {
+    let Some(layout) = read_layout(&header, size) else {
         return Err(OpenFault::NotAStore);
-    }
-    read_states(disk, states, block)
+    };
+    read_states(disk, layout.cells(), states, block)?;
+    Ok(layout)
 }
 
 // Reads the cells of a store, each block of them at once.
 #[tactic(auto, using(crate::proofs::Opened::calm_none, crate::proofs::Opened::calm_one, crate::proofs::Opened::calm_both))]
 fn read_states<D: Disk>(
     disk: &mut D,
+    cells: usize,
     states: &mut Directory,
     block: &mut [u8],
 ) -> Result<(), OpenFault>
-    requires size { D.size disk.old ≡ store_size }
+    requires size { place cells ≤ D.size disk.old }
+    requires whole { cells % 64 ≡ 0 }
+    requires few { cells ≤ cell_count }
     requires states { states.old ≡ replicate cell_count Free }
     requires room { length block.old ≡ 69632 }
-    requires store { IfSome (D.contents disk.old) (λ image. IsStoreFile image) }
-    ensures read { OnOk result (IfSome (D.contents disk.old) (λ image. ReadsBelow cell_count states.new image)) }
+    requires store { IfSome (D.contents disk.old) (λ image. IsStoreFile image × (cells_of image ≡ cells)) }
+    ensures read { OnOk result (IfSome (D.contents disk.old) (ReadsBelow cells states.new)) }
+    ensures beyond { OnOk result (AreFreeFrom cells states.new) }
     ensures one { OnOk result (HasOneEach cell_count states.new) }
     ensures numbered { OnOk result (IsNumbered cell_count states.new) }
     ensures named { OnOk result (IsNamed cell_count states.new) }
     ensures states { length states.new ≡ cell_count }
     ensures cause { IfErr result (λ fault. IfSome (D.contents disk.old) (λ image. IsOpenFaultOf fault image)) }
-    ensures size { D.size disk.new ≡ store_size }
+    ensures size { D.size disk.new ≡ D.size disk.old }
     ensures calm { Calm D.Disk disk.old disk.new }
     ensures disk { IfErr result (λ fault. IsDisk fault → Rose (D.faults disk.old) (D.faults disk.new)) }
 {
     let mut found = 0;
-    for cell in 0..CELLS {
+    for cell in 0..cells {
         match read_block(disk, cell, block) {
             Ok(()) => {}
             Err(Failed) => return Err(OpenFault::Disk),

@@ -1,4 +1,5 @@
 mod Common
 mod Entries
 pub mod Changes
+pub mod Counts
 mod Searching

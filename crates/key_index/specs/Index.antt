@@ -1,7 +1,5 @@
 -- A row of entries, and what a look in it costs.
-use Rattle.std.specs.Prelude.{◌≡◌, ℕ, ◌<◌, ◌≤◌, ◌+◌, ◌*◌, ◌^◌, ◌==◌, ◌&&◌, Bool, if◌then◌else◌, List, length, slice_index_or}
-use Rattle.std.specs.List.{sum_by}
-use Rattle.std.specs.List.Sorted.{IsNonDecreasingBy, IsPartitionPoint}
+use Rattle.std.specs.{Prelude.◌≡◌, Prelude.ℕ, Prelude.◌<◌, Prelude.◌≤◌, Prelude.◌+◌, Prelude.◌*◌, Prelude.◌^◌, Prelude.◌==◌, Prelude.◌&&◌, Prelude.nat_le, Prelude.Bool, Prelude.if◌then◌else◌, Prelude.List, Prelude.length, Prelude.slice_index_or, List.sum_by, List.Sorted.IsNonDecreasingBy, List.Sorted.IsPartitionPoint}
 use Rattle.key_index.specs.declared.index.Entry.{Entry}
 
 abbrev pub entry_at : List Entry → ℕ → Entry
@@ -13,6 +11,10 @@ IsSorted entries = IsNonDecreasingBy (λ (e : Entry). e.id) entries
 -- how often a place stands in a row by this identifier
 abbrev pub entries_of : ℕ → ℕ → List Entry → ℕ
 entries_of id place entries = sum_by (λ (e : Entry). if e.id == id && (e.place == place) then 1 else 0) entries
+
+-- an identifier lies from one number to another
+abbrev pub is_between : (first last id : ℕ) → Bool
+is_between first last id = nat_le first id && nat_le id last
 
 -- a row has each place once by the identifier of which it has a key, and no other
 abbrev pub IsIndexOf : (has_key : (id place : ℕ) → Bool) → List Entry → Type 0

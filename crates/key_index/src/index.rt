@@ -1,7 +1,6 @@
 //! The places of keys by their identifiers.
-ghost use Rattle.std.specs.Prelude.{◌≡◌, ℕ, ◌<◌, ◌≤◌, ◌+◌, [], ◌∷◌, length, IfOk, IfErr, MatchOption};
-ghost use Rattle.std.specs.{List.Sorted.IsPermutation, Ordering.MatchOrdering};
-ghost use Rattle.key_index.specs.Index.{AreHalvings, IsAlone, IsGap, IsSorted, entries_of, entry_at};
+ghost use Rattle.std.specs.{Prelude.◌≡◌, Prelude.ℕ, Prelude.◌<◌, Prelude.◌≤◌, Prelude.◌+◌, Prelude.[], Prelude.◌∷◌, Prelude.length, Prelude.count_by, Prelude.nat_le, Prelude.nat_lt, Prelude.IfOk, Prelude.IfErr, Prelude.MatchOption, List.Sorted.IsPermutation, Ordering.MatchOrdering};
+ghost use Rattle.key_index.specs.Index.{AreHalvings, IsAlone, IsGap, IsSorted, entries_of, entry_at, is_between};
 
 use crate::steps::Steps;
 use arrayvec::ArrayVec;
@@ -83,6 +82,14 @@ impl<const CAPACITY: usize> KeyIndex<CAPACITY> {
         self.entries.len()
     }
 
+    /// How many entries have identifiers from one number to another.
+    pub fn count_between(&self, first: u64, last: u64) -> usize
+        requires { first ≤ last }
+        ensures { result ≡ count_by (λ e. is_between first last e.id) self.now }
+    {
+        count_to(self.entries.as_slice(), last) - count_below(self.entries.as_slice(), first)
+    }
+
     /// Puts an entry in.
     pub fn insert(&mut self, id: u32, place: u32)
         requires room { length self.old < CAPACITY }
@@ -103,6 +110,22 @@ impl<const CAPACITY: usize> KeyIndex<CAPACITY> {
             self.entries.remove(position);
         }
     }
+}
+
+// How many identifiers aren't above a number.
+fn count_to(entries: &[Entry], last: u64) -> usize
+    requires { IsSorted entries.now }
+    ensures { result ≡ count_by (λ e. nat_le e.id last) entries.now }
+{
+    entries.partition_point(|e| e.id as u64 <= last)
+}
+
+// How many are below one.
+fn count_below(entries: &[Entry], first: u64) -> usize
+    requires { IsSorted entries.now }
+    ensures { result ≡ count_by (λ e. nat_lt e.id first) entries.now }
+{
+    entries.partition_point(|e| (e.id as u64) < first)
 }
 
 // Where an entry of this identifier stands, or where one is missing.

@@ -3,7 +3,7 @@
 //! What is proved:
 //!
 //! - `KeyIndex`: `insert` adds its entry, `remove` takes its own out, and the others stay; `find` answers the place in an
-//!   entry of the identifier exactly where there is one, and `find_counted` by so few comparisons k that 2^k ≤ 2n + 1 with
+//!   entry of the identifier exactly where there is one, `count_between` how many have identifiers within bounds, and `find_counted` by so few comparisons k that 2^k ≤ 2n + 1 with
 //!   n entries.
 #![tactic(auto)]
 

@@ -3,29 +3,19 @@ use Rattle.std.proofs.Common.{Bool, inl, inr, IfSome, List, None, Option, Some, 
 use Rattle.key_policy.proofs.Common.{Class, algorithm_at, algorithm_of, base_of, class_in, class_number, class_of, cmac_base, digest, entry_of, hash_block_length, is_concrete, is_hmac, is_hmac_in, lengths_of, low_byte, mode_of, tag_length_of, whole_mac}
 use Rattle.std.specs.Option.{option_map, option_map_or}
 use Rattle.std.proofs.lemmas.Bool.{and_parts, both_ways, cases_Bool, eqb-true, eq-eqb, leb-true, not-true, or_right}
-use Rattle.alg_encoding.specs.declared.table.Base.{Base}
+use Rattle.alg_encoding.specs.{declared.table.Base.Base, declared.table.Lengths.Lengths, Table.has_length, Table.base_at, Table.permits_length, Table.named_hash_length}
 use Rattle.alg_encoding.specs.declared.table.Class.TheVariants as class
-use Rattle.alg_encoding.specs.declared.table.Lengths.{Lengths}
 use Rattle.alg_encoding.specs.declared.table.Lengths.TheVariants as lengths
-use Rattle.alg_encoding.specs.Table.{has_length, base_at, permits_length, named_hash_length}
 use Rattle.alg_encoding.proofs.Facts.{entry_of-all, base_of-low, tag_length_of-permitted}
 use Rattle.crypto_specs.specs.Prelude.{aes_encrypt, cmac, hmac}
-use Rattle.hash_ops.specs.declared.Hash.{Hash}
-use Rattle.hash_ops.specs.declared.Hash.TheVariants.{Sha224, Sha256, Sha384, Sha512}
+use Rattle.hash_ops.specs.{declared.Hash.Hash, declared.Hash.TheVariants.Sha224, declared.Hash.TheVariants.Sha256, declared.Hash.TheVariants.Sha384, declared.Hash.TheVariants.Sha512}
 use Rattle.hash_ops.specs.Hashes as hashes
 use Rattle.store_model.specs.Algorithms.{number_or_zero}
 use Rattle.store_model.specs.Aeads as model
 use Rattle.store_model.specs.DerivationOperations as derivations
-use Rattle.key_policy.specs.declared.modes.Mode.{Mode}
-use Rattle.key_policy.specs.declared.modes.Mode.TheVariants.{Ctr, CbcNoPadding, CbcPkcs7, EcbNoPadding}
-use Rattle.key_policy.specs.declared.algorithms.Algorithm.{Algorithm}
+use Rattle.key_policy.specs.{declared.modes.Mode.Mode, declared.modes.Mode.TheVariants.Ctr, declared.modes.Mode.TheVariants.CbcNoPadding, declared.modes.Mode.TheVariants.CbcPkcs7, declared.modes.Mode.TheVariants.EcbNoPadding, declared.algorithms.Algorithm.Algorithm, declared.algorithms.MacKind.MacKind, declared.algorithms.MacKind.TheVariants.Hmac, declared.algorithms.MacKind.TheVariants.Cmac}
 use Rattle.key_policy.specs.declared.algorithms.Algorithm.TheVariants as family
-use Rattle.key_policy.specs.declared.algorithms.MacKind.{MacKind}
-use Rattle.key_policy.specs.declared.algorithms.MacKind.TheVariants.{Hmac, Cmac}
-use Rattle.key_policy.specs.declared.algorithms.AeadKind.{AeadKind}
-use Rattle.key_policy.specs.declared.algorithms.AeadKind.TheVariants.{Ccm, Gcm}
-use Rattle.key_policy.specs.Parse.{hashed, hashed_if}
-use Rattle.key_policy.specs.Names.{NamesHash, NamesMode, Names, IsTagLength, is_ccm, is_cmac, is_hkdf, whole_length, whole_mac_by}
+use Rattle.key_policy.specs.{declared.algorithms.AeadKind.AeadKind, declared.algorithms.AeadKind.TheVariants.Ccm, declared.algorithms.AeadKind.TheVariants.Gcm, Parse.hashed, Parse.hashed_if, Names.NamesHash, Names.NamesMode, Names.Names, Names.IsTagLength, Names.is_ccm, Names.is_cmac, Names.is_hkdf, Names.whole_length, Names.whole_mac_by}
 
 -- ---- what holds of the row of an algorithm, as a test
 

@@ -1,12 +1,8 @@
 -- The refusals of what a key is looked for.
-use Rattle.std.proofs.Common.{Bool, None, Option, Some, [], cond, false, refl, sym, take, true, ℕ, ◌∙◌, ◌∷◌, ◌≡◌}
+use Rattle.std.proofs.{Common.Bool, Common.None, Common.Option, Common.Some, Common.[], Common.cond, Common.false, Common.refl, Common.sym, Common.take, Common.true, Common.ℕ, Common.◌∙◌, Common.◌∷◌, Common.◌≡◌, Math.Bool.and-true, lemmas.Bool.cond_both}
 use Rattle.key_policy.proofs.Common.{InvalidArgument, InvalidHandle, Key, NotPermitted, NotSupported, Status, derivation_key_rows, export_rows, first_row, is_concrete, is_opaque, pattern_refusal, use_rows}
-use Rattle.std.proofs.Math.Bool.{and-true}
-use Rattle.std.proofs.lemmas.Bool.{cond_both}
 use Rattle.store_model.proofs.Tables.{none_holds, refused_by}
-use Rattle.key_policy.specs.declared.key_use.KeyUse.{KeyUse}
-use Rattle.key_policy.specs.declared.key_use.KeyUse.TheVariants.{Export, Algorithm, Derivation}
-use Rattle.key_policy.specs.Uses.{use_refusal}
+use Rattle.key_policy.specs.{declared.key_use.KeyUse.KeyUse, declared.key_use.KeyUse.TheVariants.Export, declared.key_use.KeyUse.TheVariants.Algorithm, declared.key_use.KeyUse.TheVariants.Derivation, Uses.use_refusal}
 
 -- a key that isn't there
 pub missing : (wanted : KeyUse) → use_refusal wanted None ≡ Some InvalidHandle

@@ -1,7 +1,6 @@
 -- What is recorded of a copy, by the attributes with which it is asked for.
 use Rattle.std.specs.Prelude.{ℕ, Result}
-use Rattle.psa_status.specs.declared.Status.{Status}
-use Rattle.psa_status.specs.Rows.{◌>>=◌}
+use Rattle.psa_status.specs.{declared.Status.Status, Rows.◌>>=◌}
 use Rattle.key_attributes.specs.declared.Attributes.{Attributes}
 use Rattle.store_model.specs.Prelude.{Store, recorded_of}
 

@@ -1,10 +1,7 @@
 -- What a number says of the algorithm that it names.
 use Rattle.std.specs.Prelude.{ℕ, ◌≡◌, ◌≤◌, ◌-◌, ◌*◌, ◌^◌, ◌&&◌, nat_le, nat_lt, Bool, true, false, List, None, IsTrue}
-use Rattle.alg_encoding.specs.declared.table.Class.{Class}
-use Rattle.alg_encoding.specs.declared.table.Lengths.{Lengths}
+use Rattle.alg_encoding.specs.{declared.table.Class.Class, declared.table.Lengths.Lengths, Table.permits_length, Encoding.base_of}
 use Rattle.alg_encoding.specs.declared.table.Lengths.TheVariants as lengths
-use Rattle.alg_encoding.specs.Table.{permits_length}
-use Rattle.alg_encoding.specs.Encoding.{base_of}
 use Rattle.psa_status.specs.Rows.{first_row}
 use Rattle.crypto_specs.specs.Prelude.{aes_encrypt, cmac, hmac}
 use Rattle.hash_ops.specs.declared.Hash.{Hash}
@@ -12,19 +9,9 @@ use Rattle.hash_ops.specs.Hashes as hashes
 use Rattle.store_model.specs.Prelude.{cmac_base, digest, hash_block_length, hash_length_of, low_byte, tag_bytes, whole_mac, mode_of, class_rows, total_limit}
 use Rattle.store_model.specs.Aeads as model
 use Rattle.store_model.specs.DerivationOperations as derivations
-use Rattle.key_policy.specs.declared.modes.Mode.{Mode}
-use Rattle.key_policy.specs.declared.algorithms.Algorithm.{Algorithm}
+use Rattle.key_policy.specs.{declared.modes.Mode.Mode, declared.algorithms.Algorithm.Algorithm, declared.algorithms.MacAlgorithm.MacAlgorithm, declared.algorithms.MacKind.MacKind, declared.algorithms.MacKind.TheVariants.Hmac, declared.algorithms.MacKind.TheVariants.Cmac, declared.algorithms.AeadAlgorithm.AeadAlgorithm, declared.algorithms.AeadKind.AeadKind, declared.algorithms.Scheme.Scheme}
 use Rattle.key_policy.specs.declared.algorithms.Algorithm.TheVariants as family
-use Rattle.key_policy.specs.declared.algorithms.MacAlgorithm.{MacAlgorithm}
-use Rattle.key_policy.specs.declared.algorithms.MacKind.{MacKind}
-use Rattle.key_policy.specs.declared.algorithms.MacKind.TheVariants.{Hmac, Cmac}
-use Rattle.key_policy.specs.declared.algorithms.AeadAlgorithm.{AeadAlgorithm}
-use Rattle.key_policy.specs.declared.algorithms.AeadKind.{AeadKind}
-use Rattle.key_policy.specs.declared.algorithms.AeadKind.TheVariants.{Ccm, Gcm}
-use Rattle.key_policy.specs.declared.algorithms.KeyDerivation.{KeyDerivation}
-use Rattle.key_policy.specs.declared.algorithms.Scheme.{Scheme}
-use Rattle.key_policy.specs.declared.algorithms.Scheme.TheVariants.{Hkdf, Pbkdf2}
-use Rattle.key_policy.specs.Modes.{model_mode}
+use Rattle.key_policy.specs.{declared.algorithms.AeadKind.TheVariants.Ccm, declared.algorithms.AeadKind.TheVariants.Gcm, declared.algorithms.KeyDerivation.KeyDerivation, declared.algorithms.Scheme.TheVariants.Hkdf, declared.algorithms.Scheme.TheVariants.Pbkdf2, Modes.model_mode}
 
 -- the number names one algorithm of a class
 abbrev pub IsOfClass : Class → ℕ → Type 0

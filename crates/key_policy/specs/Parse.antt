@@ -1,20 +1,11 @@
 -- How an algorithm's number is read, and its class.
 use Rattle.std.specs.Prelude.{ℕ, ◌/◌, ◌%◌, ◌^◌, ◌==◌, Bool, false, not, Option, Some, None, if◌then◌else◌}
-use Rattle.alg_encoding.specs.declared.table.Class.{Class}
+use Rattle.alg_encoding.specs.{declared.table.Class.Class, Encoding.base_of, Encoding.is_concrete, Encoding.tag_length_of}
 use Rattle.alg_encoding.specs.declared.table.Class.TheVariants as class
-use Rattle.alg_encoding.specs.Encoding.{base_of, is_concrete, tag_length_of}
-use Rattle.hash_ops.specs.declared.Hash.{Hash}
-use Rattle.hash_ops.specs.Hashes.{of_low_byte}
-use Rattle.key_policy.specs.declared.algorithms.Algorithm.{Algorithm}
+use Rattle.hash_ops.specs.{declared.Hash.Hash, Hashes.of_low_byte}
+use Rattle.key_policy.specs.{declared.algorithms.Algorithm.Algorithm, declared.algorithms.MacKind.MacKind, declared.algorithms.AeadKind.AeadKind, declared.algorithms.Scheme.Scheme, declared.algorithms.MacKind.TheVariants.Hmac, declared.algorithms.MacKind.TheVariants.Cmac, declared.algorithms.AeadKind.TheVariants.Ccm, declared.algorithms.AeadKind.TheVariants.Gcm, Names.is_cmac}
 use Rattle.key_policy.specs.declared.algorithms.Algorithm.TheVariants as family
-use Rattle.key_policy.specs.declared.algorithms.MacKind.{MacKind}
-use Rattle.key_policy.specs.declared.algorithms.AeadKind.{AeadKind}
-use Rattle.key_policy.specs.declared.algorithms.Scheme.{Scheme}
-use Rattle.key_policy.specs.declared.algorithms.MacKind.TheVariants.{Hmac, Cmac}
-use Rattle.key_policy.specs.declared.algorithms.AeadKind.TheVariants.{Ccm, Gcm}
-use Rattle.key_policy.specs.declared.algorithms.Scheme.TheVariants.{Hkdf, Pbkdf2}
-use Rattle.key_policy.specs.Names.{is_cmac}
-use Rattle.key_policy.specs.declared.modes.Mode.TheVariants.{Ctr, CbcNoPadding, CbcPkcs7, EcbNoPadding}
+use Rattle.key_policy.specs.{declared.algorithms.Scheme.TheVariants.Hkdf, declared.algorithms.Scheme.TheVariants.Pbkdf2, declared.modes.Mode.TheVariants.Ctr, declared.modes.Mode.TheVariants.CbcNoPadding, declared.modes.Mode.TheVariants.CbcPkcs7, declared.modes.Mode.TheVariants.EcbNoPadding}
 
 abbrev pub mac_at : MacKind → Option ℕ → Option Algorithm
 mac_at kind (Some length) = Some (family.Mac (record { kind = kind; length = length }))

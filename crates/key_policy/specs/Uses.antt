@@ -1,16 +1,10 @@
 -- What a key is looked for.
 use Rattle.std.specs.Prelude.{ℕ, ◌≤◌, true, false, List, length, Option}
-use Rattle.psa_status.specs.declared.Status.{Status}
-use Rattle.psa_status.specs.Rows.{first_row}
-use Rattle.alg_encoding.specs.declared.algorithm.Alg.{Alg}
-use Rattle.alg_encoding.specs.declared.table.Class.{Class}
-use Rattle.alg_encoding.specs.declared.table.Class.TheVariants.{Mac, Cipher, Aead}
+use Rattle.psa_status.specs.{declared.Status.Status, Rows.first_row}
+use Rattle.alg_encoding.specs.{declared.algorithm.Alg.Alg, declared.table.Class.Class, declared.table.Class.TheVariants.Mac, declared.table.Class.TheVariants.Cipher, declared.table.Class.TheVariants.Aead}
 use Rattle.store_model.specs.Prelude.{Key, cipher_usage, mac_usage, use_rows}
-use Rattle.service_calls.specs.declared.handle_calls.Purpose.{Purpose}
-use Rattle.service_calls.specs.declared.handle_calls.Purpose.TheVariants.{SignMac, VerifyMac, EncryptCipher, DecryptCipher, EncryptAead, DecryptAead}
-use Rattle.key_policy.specs.declared.key_use.KeyUse.{KeyUse}
-use Rattle.key_policy.specs.declared.key_use.KeyUse.TheVariants.{Export, Algorithm, Derivation}
-use Rattle.key_policy.specs.Permissions.{IsKeyFor, derivation_refusal, export_refusal}
+use Rattle.service_calls.specs.{declared.handle_calls.Purpose.Purpose, declared.handle_calls.Purpose.TheVariants.SignMac, declared.handle_calls.Purpose.TheVariants.VerifyMac, declared.handle_calls.Purpose.TheVariants.EncryptCipher, declared.handle_calls.Purpose.TheVariants.DecryptCipher, declared.handle_calls.Purpose.TheVariants.EncryptAead, declared.handle_calls.Purpose.TheVariants.DecryptAead}
+use Rattle.key_policy.specs.{declared.key_use.KeyUse.KeyUse, declared.key_use.KeyUse.TheVariants.Export, declared.key_use.KeyUse.TheVariants.Algorithm, declared.key_use.KeyUse.TheVariants.Derivation, Permissions.IsKeyFor, Permissions.derivation_refusal, Permissions.export_refusal}
 
 -- what a key is looked for, where an operation or a call has this purpose
 abbrev pub use_with : Class → (usage : ℕ) → Alg → KeyUse

@@ -1,7 +1,6 @@
 // What an algorithm's number names.
 ghost use Rattle.std.specs.Prelude.{◌≡◌, ◌%◌, ◌^◌};
-ghost use Rattle.key_policy.specs.Names.{block_limit, is_hkdf};
-ghost use Rattle.key_policy.specs.Parse.{aead_at, algorithm_at, algorithm_of, class_in, derivation_at, hashed, is_hmac_in, mac_at};
+ghost use Rattle.key_policy.specs.{Names.block_limit, Names.is_hkdf, Parse.aead_at, Parse.algorithm_at, Parse.algorithm_of, Parse.class_in, Parse.derivation_at, Parse.hashed, Parse.is_hmac_in, Parse.mac_at};
 
 use crate::modes::Mode;
 use alg_encoding::{Alg, Class};

@@ -1,11 +1,9 @@
 // The refusals of a key's uses, each in its order.
 ghost use Rattle.std.specs.Prelude.{◌≡◌, ℕ, List, [], ◌∷◌, length, true, IsTrue, OnOk, Some};
-ghost use Rattle.psa_status.specs.declared.Status.TheVariants.{NotSupported};
-ghost use Rattle.psa_status.specs.Rows.{first_row, unless};
+ghost use Rattle.psa_status.specs.{declared.Status.TheVariants.NotSupported, Rows.first_row, Rows.unless};
 ghost use Rattle.key_attributes.specs.Checks.{permits_size};
 ghost use Rattle.store_model.specs.Prelude.{is_hmac, fits_step, fits_type, use_rows, Key, is_opaque};
-ghost use Rattle.key_policy.specs.Parse.{is_hmac_in};
-ghost use Rattle.key_policy.specs.Permissions.{IsKeyFor, derivation_refusal, export_refusal};
+ghost use Rattle.key_policy.specs.{Parse.is_hmac_in, Permissions.IsKeyFor, Permissions.derivation_refusal, Permissions.export_refusal};
 
 use crate::algorithms::Algorithm;
 use crate::named::NamedAlgorithm;

@@ -1,13 +1,10 @@
 // An algorithm's number, parsed once.
-ghost use Rattle.std.specs.Prelude.{◌≡◌, IfOk, IfSome, Some, is_some, if◌then◌else◌};
-ghost use Rattle.std.specs.Result.{result_err};
-ghost use Rattle.psa_status.specs.Rows.{first_row};
-ghost use Rattle.psa_status.specs.declared.Status.TheVariants.{InvalidArgument, NotSupported};
+ghost use Rattle.std.specs.{Prelude.◌≡◌, Prelude.IfOk, Prelude.IfSome, Prelude.Some, Prelude.is_some, Prelude.if◌then◌else◌, Result.result_err};
+ghost use Rattle.psa_status.specs.{Rows.first_row, declared.Status.TheVariants.InvalidArgument, declared.Status.TheVariants.NotSupported};
 ghost use Rattle.alg_encoding.specs.declared.table.Class.TheVariants as class;
 ghost use Rattle.alg_encoding.specs.Encoding.{class_of, is_concrete};
 ghost use Rattle.store_model.specs.Prelude.{is_hmac, class_rows};
-ghost use Rattle.key_policy.specs.Names.{Names, NamesAead, NamesDerivation, NamesHash, NamesMac, NamesMode};
-ghost use Rattle.key_policy.specs.Parse.{class_in, is_hmac_in};
+ghost use Rattle.key_policy.specs.{Names.Names, Names.NamesAead, Names.NamesDerivation, Names.NamesHash, Names.NamesMac, Names.NamesMode, Parse.class_in, Parse.is_hmac_in};
 
 use crate::algorithms::{AeadAlgorithm, Algorithm, KeyDerivation, MacAlgorithm};
 use crate::modes::Mode;

@@ -1,10 +1,7 @@
 -- What each change of a slot makes of slots that stand for the keys.
 use Rattle.key_slots.proofs.Common.{[], Agrees, ap, arith, at_each, Attributes, Bool, cases_eq, cases_lt, cond, destroyed_slot, Empty, empty_slot, EndsOnly, eq-eqb, false, false≢true, Filling, filling_slot, find_passes, Full, full_slot, full_within, Gains, HasNumber, HasSameKeys, holds_key, idle_is_full, idle_is_unread, inl, inr, is_empty_state, is_filling, is_full, is_idle, is_last, is_pending, is_volatile, IsGone, IsIdleOf, IsLawful, IsLawfulSlot, IsNext, IsSoundStore, IsThereOrNew, IsVolatileKey, Key, key_is_full, left, length, List, map_get, named, nat_tests, next_is_unread, next_within, NoKey, None, OnFalse, OnTrue, Option, Pairs, pairs_on, Pending, persistence, Puts, refl, registered, replicate, same, set, Slot, slot_at, slot_at-set_other, slot_at-set_same, SlotHasKey, SlotState, Some, StandsAt, Store, sym, Table, true, ℕ, ◌&&◌, ◌+◌, ◌-◌, ◌<◌, ◌==◌, ◌∙◌, ◌≡◌, ◌≢◌}
-use Rattle.std.proofs.lemmas.Bool.{and_parts, eqb-true}
-use Rattle.std.proofs.lemmas.List.{get_or-replicate}
-use Rattle.std.proofs.lemmas.Option.{none-some, same_Some}
-use Rattle.key_slots.proofs.Wiping.{ends_none, ends_one}
-use Rattle.key_slots.proofs.Pairs.{counted, elsewhere, was_out, nobody, nothing_out, one_more, one_less, one_filling, no_filling, is_lease, is_fill}
+use Rattle.std.proofs.{lemmas.Bool.and_parts, lemmas.Bool.eqb-true, lemmas.List.get_or-replicate, lemmas.Option.none-some, lemmas.Option.same_Some}
+use Rattle.key_slots.proofs.{Wiping.ends_none, Wiping.ends_one, Pairs.counted, Pairs.elsewhere, Pairs.was_out, Pairs.nobody, Pairs.nothing_out, Pairs.one_more, Pairs.one_less, Pairs.one_filling, Pairs.no_filling, Pairs.is_lease, Pairs.is_fill}
 
 -- A SLOT THAT IS SET
 

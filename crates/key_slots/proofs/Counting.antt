@@ -1,14 +1,9 @@
 -- How many slots are in use.
 use Rattle.key_slots.proofs.Common.{[], Agrees, All, ap, AreHoldings, arith, as_stated, Attributes, Bool, CanReserve, cases_eq, cond, count_by, Empty, eq-eqb, false, false≢true, Filling, Full, has_secure_element, identified, inl, inr, is_empty_state, is_filling, is_full, is_idle, is_lifetime, is_some, is_volatile, is_volatile_of, IsChecked, IsHolding, IsLawful, IsLawfulSlot, IsSoundStore, Key, length, List, location, map_get, map_get-retain_keys, named, names, nat_lt, nat_tests, None, not, Ok, Option, Pairs, Pending, persistence, ranked, refl, retain_keys, same, Slot, slot_at, SlotHasKey, SlotState, Some, Store, suc, sym, Table, true, ℕ, ⊎_elim, ◌&&◌, ◌*◌, ◌+◌, ◌-◌, ◌/◌, ◌<◌, ◌==◌, ◌^◌, ◌||◌, ◌∙◌, ◌∷◌, ◌≡◌, ◌≢◌, ◌≤◌, ◌⊎◌}
-use Rattle.std.proofs.lemmas.Bool.{and_from, and_parts, or_cases}
-use Rattle.std.proofs.lemmas.List.Elements.{All-head, All-tail}
-use Rattle.std.proofs.lemmas.List.Sums.{sum_by-cons}
+use Rattle.std.proofs.{lemmas.Bool.and_from, lemmas.Bool.and_parts, lemmas.Bool.or_cases, lemmas.List.Elements.All-head, lemmas.List.Elements.All-tail, lemmas.List.Sums.sum_by-cons}
 use Rattle.std.specs.declared.cmp.Ordering.TheVariants.{Equal}
-use Rattle.psa_status.specs.declared.Status.{Status}
-use Rattle.psa_status.specs.declared.Status.TheVariants.{NotSupported}
-use Rattle.psa_status.specs.Rows.{unless}
-use Rattle.key_slots.proofs.Agreeing.{readers_out, holds_its_key}
-use Rattle.key_slots.proofs.Sums.{total, total-add, total-least, total-most, total-none, total-one, total-at, total-swap, first_passing, into_map}
+use Rattle.psa_status.specs.{declared.Status.Status, declared.Status.TheVariants.NotSupported, Rows.unless}
+use Rattle.key_slots.proofs.{Agreeing.readers_out, Agreeing.holds_its_key, Sums.total, Sums.total-add, Sums.total-least, Sums.total-most, Sums.total-none, Sums.total-one, Sums.total-at, Sums.total-swap, Sums.first_passing, Sums.into_map}
 
 -- PAIRS
 

@@ -1,7 +1,6 @@
 -- Sums over the numbers below a bound, and how many keys of a map can be named.
 use Rattle.key_slots.proofs.Common.{ap, arith, Bool, cases_eq, cond, false, false≢true, inl, inr, is_some, map_empty_of_len, map_FinMap, map_get, map_get-empty, map_get-remove, map_len, map_len-remove, map_remove, nat_cmp_total, ne_eqb, None, refl, suc, sym, true, zero, ℕ, ◌*◌, ◌+◌, ◌-◌, ◌<◌, ◌∙◌, ◌≡◌, ◌≢◌, ◌≤◌, ◌⊎◌}
-use Rattle.std.specs.Cmp.{unsigned_tied}
-use Rattle.std.specs.Ordering.{nat_cmp}
+use Rattle.std.specs.{Cmp.unsigned_tied, Ordering.nat_cmp}
 
 unfoldable pub total : (ℕ → ℕ) → ℕ → ℕ
 total f zero = 0

@@ -1,8 +1,7 @@
 -- What it is for slots to stand for the keys of the one-thread store, and for what callers have out of them.
 use Rattle.std.specs.Prelude.{◌≡◌, ◌<◌, ◌≤◌, ◌⊎◌, ℕ, ◌+◌, ◌==◌, cond, Bool, true, false, List, [], Option, Some, None, if◌then◌else◌}
 use Rattle.std.specs.FinMap as map
-use Rattle.slot_states.specs.declared.SlotState.{SlotState}
-use Rattle.slot_states.specs.declared.SlotState.TheVariants.{Filling}
+use Rattle.slot_states.specs.{declared.SlotState.SlotState, declared.SlotState.TheVariants.Filling}
 use Rattle.secret_bytes.specs.Buffer.{bytes_of}
 use Rattle.slot_table.specs.Slots.{Slot, slot_at, is_full, is_pending, holds_key}
 use Rattle.store_model.specs.Prelude.{Key, Store, is_volatile, is_opaque}

@@ -2,8 +2,7 @@
 ghost use Rattle.std.specs.Prelude.{◌≤◌, ◌<◌, ℕ, List, [], replicate};
 ghost use Rattle.slot_table.specs.Slots.{Slot, CanReserve, IsLawful, Table, empty_slot, slot_at};
 ghost use Rattle.store_model.specs.Prelude.{Store, IsSoundStore};
-ghost use Rattle.key_slots.specs.Holdings.{Pairs, AreHoldings};
-ghost use Rattle.key_slots.specs.Standing.{Agrees, HasSameKeys, IsVolatileKey};
+ghost use Rattle.key_slots.specs.{Holdings.Pairs, Holdings.AreHoldings, Standing.Agrees, Standing.HasSameKeys, Standing.IsVolatileKey};
 ghost use Rattle.std.specs.FinMap as map;
 
 /// A slot is always found: of 384, the keys of sixteen callers bind at most 256, their fillings 16, and their leases 80.

@@ -3,12 +3,9 @@ ghost use Rattle.std.specs.Prelude.{◌≡◌, ◌<◌, ◌≤◌, ◌-◌, ◌+
 ghost use Rattle.std.specs.FinMap as map;
 ghost use Rattle.secret_bytes.specs.Buffer.{IsClear, bytes_of};
 ghost use Rattle.slot_states.specs.declared.SlotState.TheVariants.{Full};
-ghost use Rattle.slot_table.specs.Slots.{empty_slot, filling_slot, slot_at, holds_key, is_idle, is_last, NoKey, CanReserve, IsLawful};
-ghost use Rattle.slot_table.specs.Changes.{destroyed_slot, full_slot};
+ghost use Rattle.slot_table.specs.{Slots.empty_slot, Slots.filling_slot, Slots.slot_at, Slots.holds_key, Slots.is_idle, Slots.is_last, Slots.NoKey, Slots.CanReserve, Slots.IsLawful, Changes.destroyed_slot, Changes.full_slot};
 ghost use Rattle.store_model.specs.Prelude.{Key, Store, HasNumber, IsSoundStore};
-ghost use Rattle.key_slots.specs.Holdings.{Pairs, Gains, named};
-ghost use Rattle.key_slots.specs.Standing.{Agrees, SlotHasKey, IsOut, IsThereOrNew, IsVolatileKey, Puts};
-ghost use Rattle.key_slots.specs.Wiping.{EndsOnly, IsEmptyOrIdle, IsFillingOf, IsIdleOf, IsLastOf, IsTakenOf};
+ghost use Rattle.key_slots.specs.{Holdings.Pairs, Holdings.Gains, Holdings.named, Standing.Agrees, Standing.SlotHasKey, Standing.IsOut, Standing.IsThereOrNew, Standing.IsVolatileKey, Standing.Puts, Wiping.EndsOnly, Wiping.IsEmptyOrIdle, Wiping.IsFillingOf, Wiping.IsIdleOf, Wiping.IsLastOf, Wiping.IsTakenOf};
 
 use key_attributes::{Attributes, KeyId};
 use psa_status::Memory;

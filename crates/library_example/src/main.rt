@@ -10,7 +10,7 @@ ghost use Rattle.caller_service.specs.Staff.{AreStaff};
 
 use admission::{Admission, Rules};
 use alg_encoding::Alg;
-use caller_service::{Closed, Service};
+use caller_service::{Closed, Limits, Service};
 use callers::{Caller, NoGate};
 use disk_face::{Disk, Fails, MemoryDisk};
 use driver_dispatch::{Devices, Drivers};
@@ -74,7 +74,10 @@ fn use_service<D: Disk + Drop, A: Devices, C: Admission, R: Wait>(
 ) -> Result<[u8; 16], Status>
     requires { A.keys devices ≡ Some no_keys }
 {
-    let opened = Service::open(alloc, disk, devices, rules, &[0; 32], BUDGET, NoGate);
+    let limits = Limits::Whole;
+    let opened = Service::open(
+        alloc, disk, devices, rules, limits, &[0; 32], BUDGET, NoGate,
+    );
     let Ok((service, mut callers)) = opened else {
         return Err(Status::StorageFailure);
     };

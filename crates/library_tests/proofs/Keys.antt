@@ -1,10 +1,8 @@
 -- The keys of a driver that takes one after another.
-use Rattle.std.proofs.Common.{Err, None, Ok, Option, Result, Some, ap, arith, cond, false, inl, inr, unwrap_or, ℕ, ◌+◌, ◌==◌, ◌∙◌, ◌≡◌, ◌≤◌}
+use Rattle.std.proofs.{Common.Err, Common.None, Common.Ok, Common.Option, Common.Result, Common.Some, Common.ap, Common.arith, Common.cond, Common.false, Common.inl, Common.inr, Common.unwrap_or, Common.ℕ, Common.◌+◌, Common.◌==◌, Common.◌∙◌, Common.◌≡◌, Common.◌≤◌, lemmas.Bool.Decides.nat_tests}
 use Rattle.std.specs.Ordering.{nat_cmp}
-use Rattle.std.proofs.lemmas.Bool.Decides.{nat_tests}
 use Rattle.std.specs.FinMap as finite
-use Rattle.driver_dispatch.specs.Held.{HeldKey, HeldKeys, held_key, no_keys, with_held_key}
-use Rattle.driver_dispatch.specs.Calls.{Changes}
+use Rattle.driver_dispatch.specs.{Held.HeldKey, Held.HeldKeys, Held.held_key, Held.no_keys, Held.with_held_key, Calls.Changes}
 use Rattle.soft_driver.proofs.Maps.{put}
 
 pub none_yet : (m : HeldKeys) (handle : ℕ) → m ≡ no_keys → held_key m handle ≡ None

@@ -5,14 +5,10 @@ use Rattle.std.specs.FinMap as map
 use Rattle.psa_status.specs.Rows.{◌>>=◌}
 use Rattle.psa_status.proofs.Rows.{unless-ok}
 use Rattle.key_attributes.specs.Checks.{attribute_rows, checked, filled}
-use Rattle.policy_rules.specs.declared.narrowing.Label.{Label}
-use Rattle.policy_rules.specs.declared.narrowing.Label.TheVariants.{NoExport, NoCopy, NoEcb, Aes256}
-use Rattle.policy_rules.specs.declared.narrowing.Verdict.{Verdict}
-use Rattle.policy_rules.specs.declared.narrowing.Verdict.TheVariants.{Keep, Refuse}
+use Rattle.policy_rules.specs.{declared.narrowing.Label.Label, declared.narrowing.Label.TheVariants.NoExport, declared.narrowing.Label.TheVariants.NoCopy, declared.narrowing.Label.TheVariants.NoEcb, declared.narrowing.Label.TheVariants.Aes256, declared.narrowing.Verdict.Verdict, declared.narrowing.Verdict.TheVariants.Keep, declared.narrowing.Verdict.TheVariants.Refuse}
 use Rattle.policy_rules.specs.Narrow.{names_ecb, narrowed, after_verdict, after_rules}
 use Rattle.store_model.proofs.Recorded.{then_ok}
-use Rattle.line_generator.proofs.Maps.{len_inserted}
-use Rattle.line_generator.proofs.Alike.{AlikeStores, plain, plain_key, some_of, set_both}
+use Rattle.line_generator.proofs.{Maps.len_inserted, Alike.AlikeStores, Alike.plain, Alike.plain_key, Alike.some_of, Alike.set_both}
 
 -- RULES LEAVE THE LIFETIME
 

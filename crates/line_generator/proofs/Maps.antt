@@ -1,10 +1,7 @@
 -- How many keys of some identifiers a map has, after an insertion and after a removal.
 use Rattle.line_generator.proofs.Common.{nat_tests, Bool, None, Option, Some, ap, arith, cond, false, is_some, refl, sym, true, ℕ, ◌+◌, ◌-◌, ◌==◌, ◌∙◌, ◌≡◌}
-use Rattle.std.specs.Ordering.{nat_cmp}
-use Rattle.std.specs.Cmp.{unsigned_tied}
+use Rattle.std.specs.{Ordering.nat_cmp, Cmp.unsigned_tied, FinMap.FinMap, FinMap.get, FinMap.insert, FinMap.remove, FinMap.retain_keys, FinMap.len, FinMap.get-insert, FinMap.get-remove, FinMap.get-retain_keys, FinMap.len-insert, FinMap.len-remove, FinMap.same_map, FinMap.nat_cmp-IsAntisymmetric, declared.cmp.Ordering.TheVariants.Equal}
 use Rattle.std.proofs.lemmas.Cmp.{nat_cmp_total, ranked}
-use Rattle.std.specs.FinMap.{FinMap, get, insert, remove, retain_keys, len, get-insert, get-remove, get-retain_keys, len-insert, len-remove, same_map, nat_cmp-IsAntisymmetric}
-use Rattle.std.specs.declared.cmp.Ordering.TheVariants.{Equal}
 
 both : {X : Type 0} (b c : Bool) (x y : Option X) → (b ≡ true → c ≡ true) → cond c (cond b x y) None ≡ cond b x (cond c y None)
 both true true x y h = refl

@@ -1,15 +1,10 @@
 -- The generator's lines in any order: each session is answered as if it were alone.
 use Rattle.std.proofs.Common.{All, Bool, List, [], ap, codes, cond, count_by, eq-eqb, eqb-true, false, filter, flat_map, get_or, inl, map, not, refl, subst, suc, sym, true, zero, ℕ, ◌%◌, ◌*◌, ◌++◌, ◌+◌, ◌-◌, ◌/◌, ◌==◌, ◌∙◌, ◌∷◌, ◌≡◌}
 use Rattle.line_generator.proofs.Common.{All-head, All-tail, AreCalls, attributes_at, call, count_line, encode_lower, Entry, eqb-false, fields, generator_line, generator_lines, id_given, import_fields, is_success, length-map, lines_of, map-append, numbered, outcome_of, output_bytes, Plain, range_with_len, replies_to, Reply, ReplyLine, Request, request_of, rising_bytes, serve, Served, Service, sha256, sum_by-cons, summary_of, Turn, turns_from, turns_of, unranked_text}
-use Rattle.script_lang.specs.declared.commands.ScriptCommand.TheVariants.{Key, SinglePart}
-use Rattle.script_lang.specs.declared.store_commands.KeyCommand.TheVariants.{Import, Export, Destroy}
-use Rattle.script_lang.specs.declared.store_commands.SinglePartCommand.TheVariants.{CipherEncrypt, MacCompute}
-use Rattle.script_lang.specs.declared.script.KeyWord.TheVariants.{Given, Line}
-use Rattle.script_lang.specs.declared.script.ScriptCall.{ScriptCall}
-use Rattle.script_lang.specs.declared.script.ScriptLine.{ScriptLine}
+use Rattle.script_lang.specs.{declared.commands.ScriptCommand.TheVariants.Key, declared.commands.ScriptCommand.TheVariants.SinglePart, declared.store_commands.KeyCommand.TheVariants.Import, declared.store_commands.KeyCommand.TheVariants.Export, declared.store_commands.KeyCommand.TheVariants.Destroy, declared.script.KeyWord.TheVariants.Given, declared.script.KeyWord.TheVariants.Line}
+use Rattle.script_lang.specs.{declared.store_commands.SinglePartCommand.TheVariants.CipherEncrypt, declared.store_commands.SinglePartCommand.TheVariants.MacCompute, declared.script.ScriptCall.ScriptCall, declared.script.ScriptLine.ScriptLine}
 use Rattle.line_generator.specs.Orders.{IsOrder, reply_lines_of, without_rank, RepliesInAnyOrder, SummaryInAnyOrder}
-use Rattle.line_generator.proofs.Alike.{Alike, NoZero, OwnId}
-use Rattle.line_generator.proofs.Steps.{KeyCall, Imports, Exports, Signs, Encrypts, Destroys, asked, IsOwn, SameStep, own_step, other_step, zero_stays, given_own}
+use Rattle.line_generator.proofs.{Alike.Alike, Alike.NoZero, Alike.OwnId, Steps.KeyCall, Steps.Imports, Steps.Exports, Steps.Signs, Steps.Encrypts, Steps.Destroys, Steps.asked, Steps.IsOwn, Steps.SameStep, Steps.own_step, Steps.other_step, Steps.zero_stays, Steps.given_own}
 
 abbrev pub Each : {X : Type 0} → (X → Type 0) → List X → Type 0
 Each P [] = Unit {0}

@@ -2,13 +2,10 @@
 use Rattle.std.proofs.Common.{rules, Bool, Err, List, None, Ok, Option, Result, Some, [], ap, arith, cond, eqb-true, false, inl, inr, is_some, length, not, refl, slice_set, subst, sym, true, ℕ, ◌&&◌, ◌*◌, ◌+◌, ◌-◌, ◌/◌, ◌<◌, ◌==◌, ◌^◌, ◌∙◌, ◌∷◌, ◌≡◌}
 use Rattle.line_generator.proofs.Common.{Attributes, bytes_of_key, cipher_usage, CipherEncrypt, compute_rows, Computed, computed_unless, cond-false, counted, created, created_unless, decided, Destroy, destroy_rows, destroyed, encrypt_rows, encrypted, Export, export_reply, export_rows, false_from_ne_true, first_row, given, id_given, Identifier, Import, InvalidHandle, is_ctr, is_volatile, is_volatile_of, iv_length, Key, length-set, live_volatile, mac_reply, mac_usage, MacCompute, made_of, mode_of, nat_tests, new_id, new_key, on_store, OnStore, Outcome, Own, Plain, put, recorded_of, refused, replies, reply_unless, Request, room_for_key_rows, serve, Served, Service, Settings, Status, Store, Success, taken, use_rows, with_computed}
 use Rattle.std.specs.FinMap as map
-use Rattle.alg_encoding.specs.declared.table.Class.{Class}
-use Rattle.alg_encoding.specs.declared.table.Class.TheVariants.{Cipher, Mac}
+use Rattle.alg_encoding.specs.{declared.table.Class.Class, declared.table.Class.TheVariants.Cipher, declared.table.Class.TheVariants.Mac}
 use Rattle.random_streams.specs.RandomWords.{random_bytes}
 use Rattle.store_model.proofs.Others.{leaves_callers, leaves_settings}
-use Rattle.line_generator.proofs.Maps.{len_inserted, len_removed}
-use Rattle.line_generator.proofs.Alike.{Alike, AlikeStores, NoZero, OwnId, looked, after_both, plain, some_of}
-use Rattle.line_generator.proofs.Imports.{recorded_same, recorded_volatile, created_same}
+use Rattle.line_generator.proofs.{Maps.len_inserted, Maps.len_removed, Alike.Alike, Alike.AlikeStores, Alike.NoZero, Alike.OwnId, Alike.looked, Alike.after_both, Alike.plain, Alike.some_of, Imports.recorded_same, Imports.recorded_volatile, Imports.created_same}
 
 -- the calls that the generator's lines make
 pub data KeyCall : Type 0 where

@@ -1,17 +1,9 @@
 -- The lines of the generator.
-use Rattle.std.specs.Prelude.{ℕ, ◌+◌, ◌-◌, ◌*◌, ◌/◌, ◌%◌, ◌==◌, if◌then◌else◌, List, [], ◌∷◌, map}
-use Rattle.std.specs.List.{range_with_len}
-use Rattle.script_lang.specs.Prelude.{Fields}
-use Rattle.script_lang.specs.declared.commands.ScriptCommand.{ScriptCommand}
-use Rattle.script_lang.specs.declared.commands.ScriptCommand.TheVariants.{Key, SinglePart}
-use Rattle.script_lang.specs.declared.store_commands.KeyCommand.TheVariants.{Import, Export, Destroy}
-use Rattle.script_lang.specs.declared.store_commands.SinglePartCommand.TheVariants.{CipherEncrypt, MacCompute}
+use Rattle.std.specs.{Prelude.ℕ, Prelude.◌+◌, Prelude.◌-◌, Prelude.◌*◌, Prelude.◌/◌, Prelude.◌%◌, Prelude.◌==◌, Prelude.if◌then◌else◌, Prelude.List, Prelude.[], Prelude.◌∷◌, Prelude.map, List.range_with_len}
+use Rattle.script_lang.specs.{Prelude.Fields, declared.commands.ScriptCommand.ScriptCommand, declared.commands.ScriptCommand.TheVariants.Key, declared.commands.ScriptCommand.TheVariants.SinglePart, declared.store_commands.KeyCommand.TheVariants.Import, declared.store_commands.KeyCommand.TheVariants.Export, declared.store_commands.KeyCommand.TheVariants.Destroy, declared.script.KeyWord.KeyWord}
+use Rattle.script_lang.specs.{declared.store_commands.SinglePartCommand.TheVariants.CipherEncrypt, declared.store_commands.SinglePartCommand.TheVariants.MacCompute, declared.fields.FieldValue.TheVariants.Short, declared.fields.FieldValue.TheVariants.Word, declared.fields.FieldValue.TheVariants.Bytes, declared.script.KeyWord.TheVariants.Given, declared.script.KeyWord.TheVariants.Line}
 use Rattle.script_lang.specs.declared.fields.Field.TheVariants as field
-use Rattle.script_lang.specs.declared.fields.FieldValue.TheVariants.{Short, Word, Bytes}
-use Rattle.script_lang.specs.declared.script.KeyWord.{KeyWord}
-use Rattle.script_lang.specs.declared.script.KeyWord.TheVariants.{Given, Line}
-use Rattle.script_lang.specs.declared.script.ScriptCall.{ScriptCall}
-use Rattle.script_lang.specs.declared.script.ScriptLine.{ScriptLine}
+use Rattle.script_lang.specs.{declared.script.ScriptCall.ScriptCall, declared.script.ScriptLine.ScriptLine}
 
 -- so many bytes, one up from the other, from a number on
 abbrev pub rising_bytes : (first count : ℕ) → List ℕ

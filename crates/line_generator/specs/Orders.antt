@@ -3,8 +3,7 @@ use Rattle.std.specs.Prelude.{ℕ, ◌≡◌, List, [], None, All, map}
 use Rattle.std.specs.FinMap as keys
 use Rattle.store_model.specs.Prelude.{Plain, Service, Entry}
 use Rattle.script_lang.specs.Prelude.{lines_of, AreCalls, turns_from, turns_of, replies_to, ReplyLine}
-use Rattle.line_generator.specs.Generator.{generator_lines}
-use Rattle.line_generator.specs.Summary.{summary_of}
+use Rattle.line_generator.specs.{Generator.generator_lines, Summary.summary_of}
 
 -- A history is an order of the first so many lines of the generator, which keeps each session's own. No device failed.
 pub record IsOrder (start : Service) (count : ℕ) (history : List Entry) : Type 0 where

@@ -1,6 +1,5 @@
 -- The summary of the replies.
-use Rattle.std.specs.Prelude.{◌≡◌, ℕ, not, List, ◌++◌, length, count_by, flat_map, codes}
-use Rattle.std.specs.Fmt.{decimal}
+use Rattle.std.specs.{Prelude.◌≡◌, Prelude.ℕ, Prelude.not, Prelude.List, Prelude.◌++◌, Prelude.length, Prelude.count_by, Prelude.flat_map, Prelude.codes, Fmt.decimal}
 use Rattle.hex.specs.Hex.{encode_lower}
 use Rattle.sha2.specs.Sha256.{sha256}
 use Rattle.psa_status.specs.Status.{status_name}

@@ -1,6 +1,5 @@
 // Laws of the generator's lines, and of their replies.
-ghost use Rattle.line_generator.specs.Orders.{RepliesInAnyOrder, SummaryInAnyOrder};
-ghost use Rattle.line_generator.specs.Summary.{RankStandsBetween};
+ghost use Rattle.line_generator.specs.{Orders.RepliesInAnyOrder, Orders.SummaryInAnyOrder, Summary.RankStandsBetween};
 
 /// Every order of the generator's lines that keeps each session's own gives the same replies but for their ranks, and so
 /// the same summary, where no device failed.

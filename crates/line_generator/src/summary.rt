@@ -1,9 +1,7 @@
 // The summary of the replies.
-ghost use Rattle.std.specs.Prelude.{◌≡◌, ◌≤◌, ◌-◌, ◌+◌, ◌++◌, ℕ, List, OnOk, IfOk, flat_map, length, sum_by};
-ghost use Rattle.std.specs.Fmt.{decimal};
+ghost use Rattle.std.specs.{Prelude.◌≡◌, Prelude.◌≤◌, Prelude.◌-◌, Prelude.◌+◌, Prelude.◌++◌, Prelude.ℕ, Prelude.List, Prelude.OnOk, Prelude.IfOk, Prelude.flat_map, Prelude.length, Prelude.sum_by, Fmt.decimal};
 ghost use Rattle.sha2.specs.Sha256.{sha256};
-ghost use Rattle.script_lang.specs.Prelude.{AreAllKept, ReplyLine};
-ghost use Rattle.script_lang.specs.declared.replies.ReplyForm.TheVariants.{Unranked};
+ghost use Rattle.script_lang.specs.{Prelude.AreAllKept, Prelude.ReplyLine, declared.replies.ReplyForm.TheVariants.Unranked};
 ghost use Rattle.line_generator.specs.Summary.{count_line, summary_of};
 
 use itoa::Buffer;

@@ -1,5 +1,5 @@
 -- A pass in its turn and after it.
-use Rattle.locked_store.proofs.Common.{AllByRecursion, Entry, GoesOn, IsCaller, List, Option, OwnCalls, Pairs, SpendsOneTurn, StartsWith, View, [], after_turn, ap, arith, begins_longer, caller_of, calls_by, entries-append, entries_of, entries_one, option_list, subst, sym, ℕ, ◌++◌, ◌+◌, ◌∙◌, ◌∷◌, ◌≡◌, ◌≤◌}
+use Rattle.locked_store.proofs.Common.{AllByRecursion, Entry, GoesOn, IsCaller, List, Option, OwnCalls, Pairs, SpendsOneTurn, StartsWith, View, [], after_turn, ap, arith, begins_longer, caller_of, calls_by, entries-append, entries_of, entries_one, option_list, subst, sym, ◌++◌, ◌+◌, ◌∙◌, ◌∷◌, ◌≡◌, ◌≤◌}
 
 -- the callers of a history with one more entry, and without it
 pub signed_push : (h : List Entry) (e : Entry) → AllByRecursion IsCaller h → IsCaller e → AllByRecursion IsCaller (h ++ e ∷ [])

@@ -6,9 +6,7 @@ use Rattle.psa_status.specs.declared.Status.{Status}
 use Rattle.slot_table.specs.Lent as lent
 use Rattle.store_model.specs.Store as model
 use Rattle.store_core.proofs.Rises.{rising_push}
-use Rattle.locked_store.proofs.Owning.{fewer, gains, loses, splits, with_holding}
-use Rattle.locked_store.proofs.Passing.{goes_on, signed_push}
-use Rattle.locked_store.proofs.Renewing.{As, At, For, From, Here, decides_after, holdings, is_entry, model_as, reading, renewed, told_now, told_then}
+use Rattle.locked_store.proofs.{Owning.fewer, Owning.gains, Owning.loses, Owning.splits, Owning.with_holding, Passing.goes_on, Passing.signed_push, Renewing.As, Renewing.At, Renewing.For, Renewing.From, Renewing.Here, Renewing.decides_after, Renewing.holdings, Renewing.is_entry, Renewing.model_as, Renewing.reading, Renewing.renewed, Renewing.told_now, Renewing.told_then}
 
 -- a pair of one caller is one of all
 named_at : (i k j : ℕ) (all : List Pairs) → j < length all → names i k (get_or all j []) ≤ named i k all

@@ -2,15 +2,10 @@
 use Rattle.std.specs.Prelude.{◌≡◌, ◌<◌, ◌≤◌, ℕ, true, List, [], All, length, slice_index_or, Option, is_some}
 use Rattle.key_cells.specs.Prelude.{cell_count}
 use Rattle.atomic_table.specs.declared.shared.Seat.{Seat}
-use Rattle.turn_history.specs.declared.pass.Account.{Account}
-use Rattle.turn_history.specs.declared.pass.View.{View}
-use Rattle.turn_history.specs.Prelude.{entries_of, calls_by, StartsWith}
+use Rattle.turn_history.specs.{declared.pass.Account.Account, declared.pass.View.View, Prelude.entries_of, Prelude.calls_by, Prelude.StartsWith}
 use Rattle.store_model.specs.Prelude.{Service, Entry, replay, last_counts}
-use Rattle.store_core.specs.declared.store.Opened.{Opened}
-use Rattle.store_core.specs.Prelude.{FreedCellsAreZeros, HasKeyOrIsClosed, HasKeyOrZeros, KeepsKeys, course_of, durable_keys, opening_of}
-use Rattle.locked_store.specs.Standing.{caller_of}
-use Rattle.locked_store.specs.Turning.{IsAt, IsLegal, IsStartOf}
-use Rattle.locked_store.specs.Worlds.{World}
+use Rattle.store_core.specs.{declared.store.Opened.Opened, Prelude.FreedCellsAreZeros, Prelude.HasKeyOrIsClosed, Prelude.HasKeyOrZeros, Prelude.KeepsKeys, Prelude.course_of, Prelude.durable_keys, Prelude.opening_of}
+use Rattle.locked_store.specs.{Standing.caller_of, Turning.IsAt, Turning.IsLegal, Turning.IsStartOf, Worlds.World}
 
 -- each of these passes is of this lock, and outside any turn
 abbrev pub AreAt : {V D A C : Type 0} (w : World D A C) → List (Seat (Option V) (View Entry (Opened D A C))) → Type 0

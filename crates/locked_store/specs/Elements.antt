@@ -3,17 +3,11 @@ use Rattle.std.specs.Prelude.{◌≡◌, ℕ, false, List, ◌∷◌}
 use Rattle.std.specs.FinMap as map
 use Rattle.secret_bytes.specs.Buffer.{IsClear, bytes_of}
 use Rattle.turn_history.specs.declared.pass.View.{View}
-use Rattle.secure_element_calls.specs.declared.calls.ElementCall.{ElementCall}
-use Rattle.secure_element_calls.specs.Answers.{mark_computed}
-use Rattle.key_policy.specs.declared.key_use.KeyUse.{KeyUse}
-use Rattle.key_policy.specs.Uses.{FitsUse, use_refusal}
+use Rattle.secure_element_calls.specs.{declared.calls.ElementCall.ElementCall, Answers.mark_computed}
+use Rattle.key_policy.specs.{declared.key_use.KeyUse.KeyUse, Uses.FitsUse, Uses.use_refusal}
 use Rattle.store_model.specs.Prelude.{Plain, Store, is_opaque_key, Request, Entry}
-use Rattle.store_core.specs.declared.store.Opened.{Opened}
-use Rattle.store_core.specs.Prelude.{IsElementAnswered, IsLent, IsRefused, mark_of}
-use Rattle.locked_store.specs.declared.elements.Looked.{Looked}
-use Rattle.locked_store.specs.declared.elements.Looked.TheVariants.{Computed, Lent, Refused}
-use Rattle.locked_store.specs.Turning.{DecidesAfter, IsRanked, lease_pair}
-use Rattle.locked_store.specs.Worlds.{World}
+use Rattle.store_core.specs.{declared.store.Opened.Opened, Prelude.IsElementAnswered, Prelude.IsLent, Prelude.IsRefused, Prelude.mark_of}
+use Rattle.locked_store.specs.{declared.elements.Looked.Looked, declared.elements.Looked.TheVariants.Computed, declared.elements.Looked.TheVariants.Lent, declared.elements.Looked.TheVariants.Refused, Turning.DecidesAfter, Turning.IsRanked, Turning.lease_pair, Worlds.World}
 
 module _ {D A C : Type 0} (store : World D A C)
     (v w : View Entry (Opened D A C)) (call : Request) (r id : ℕ) (wanted : KeyUse) (element : ElementCall) (old new : List ℕ) where

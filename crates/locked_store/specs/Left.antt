@@ -1,18 +1,13 @@
 -- What the end of a turn is handed: the store that it leaves, by the pass in its turn.
 use Rattle.std.specs.Prelude.{[], ◌∷◌, ◌++◌, Option}
 use Rattle.atomic_table.specs.declared.shared.Seat.{Seat}
-use Rattle.turn_history.specs.declared.pass.View.{View}
-use Rattle.turn_history.specs.Prelude.{entries_of, with_held_by}
+use Rattle.turn_history.specs.{declared.pass.View.View, Prelude.entries_of, Prelude.with_held_by}
 use Rattle.disk_face.specs.declared.Disk as disk
 use Rattle.driver_dispatch.specs.declared.devices.Devices as devices
 use Rattle.admission.specs.declared.rules.Admission as admission
 use Rattle.store_model.specs.Prelude.{Request, Entry}
-use Rattle.store_core.specs.declared.store.Opened.{Opened}
-use Rattle.store_core.specs.declared.store.Store.{Store}
-use Rattle.locked_store.specs.declared.changes.Change.{Change}
-use Rattle.locked_store.specs.declared.changes.Met.{Met}
-use Rattle.locked_store.specs.Standing.{HoldsHistory}
-use Rattle.locked_store.specs.Turning.{after_change, mark_met, turn_entry}
+use Rattle.store_core.specs.{declared.store.Opened.Opened, declared.store.Store.Store}
+use Rattle.locked_store.specs.{declared.changes.Change.Change, declared.changes.Met.Met, Standing.HoldsHistory, Turning.after_change, Turning.mark_met, Turning.turn_entry}
 
 -- the entry of a pass's request
 abbrev pub entry_left : {V D A C : Type 0} → disk.Ghosts D → devices.Ghosts A → Store D A C → Seat (Option V) (View Entry (Opened D A C)) → Request → Met → Entry

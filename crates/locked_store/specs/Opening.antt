@@ -2,10 +2,9 @@
 use Rattle.std.specs.Prelude.{◌≡◌, ◌≤◌, ◌⊎◌, ℕ, List}
 use Rattle.disk_face.specs.declared.Disk as disk
 use Rattle.key_cells.specs.declared.state.CellState as cell
-use Rattle.key_cells.specs.declared.reading.OpenFault.{OpenFault}
-use Rattle.key_cells.specs.declared.reading.OpenFault.TheVariants.{Memory}
-use Rattle.key_cells.specs.Prelude.{IsOpened, IsOpeningRefused}
-use Rattle.store_core.specs.Prelude.{FindsKeysOf}
+use Rattle.key_cells.specs.{declared.reading.OpenFault.TheVariants.Memory, Prelude.IsOpened, Prelude.IsOpeningRefused}
+use Rattle.store_model.specs.declared.limits.Limits.{Limits}
+use Rattle.store_core.specs.{Prelude.FindsKeysOf, Prelude.IsUnopened, declared.opening.StoreFault.StoreFault, declared.opening.StoreFault.TheVariants.File, declared.opening.StoreFault.TheVariants.RangeFull}
 use Rattle.locked_store.specs.Worlds.{World}
 
 module _ {D A C : Type 0} (w : World D A C) where
@@ -18,6 +17,7 @@ module _ {D A C : Type 0} (w : World D A C) where
   IsOpenedOn disk = IsOpened w.disk disk w.opened.file.value.cells.disk w.opened.file.value.cells.states
 
 -- the opening was refused; or it was done, and there was no memory for the lock
-abbrev pub IsNotOpened : {D : Type 0} → disk.Ghosts D → (old new : D) → OpenFault → Type 0
-IsNotOpened disks old new fault = IsOpeningRefused disks old new fault
+abbrev pub IsNotOpened : {D : Type 0} → disk.Ghosts D → Limits → (old new : D) → StoreFault → Type 0
+IsNotOpened disks limits old new (RangeFull range) = IsUnopened disks limits old new (RangeFull range)
+IsNotOpened disks limits old new (File fault) = IsOpeningRefused disks old new fault
     ⊎ ((fault ≡ Memory) × ((slots : List cell.CellState) × IsOpened disks old new slots) × (disks.faults old ≤ disks.faults new))

@@ -2,23 +2,17 @@
 use Rattle.std.specs.Prelude.{◌≡◌, ℕ, true, ◌∷◌, Option}
 use Rattle.std.specs.FinMap as map
 use Rattle.atomic_table.specs.declared.shared.Seat.{Seat}
-use Rattle.turn_history.specs.declared.pass.View.{View}
-use Rattle.turn_history.specs.Prelude.{entries_of}
+use Rattle.turn_history.specs.{declared.pass.View.View, Prelude.entries_of}
 use Rattle.disk_face.specs.declared.Disk as disk
 use Rattle.driver_dispatch.specs.declared.devices.Devices as devices
 use Rattle.admission.specs.declared.rules.Admission as admission
 use Rattle.slot_table.specs.Lent as lent
-use Rattle.service_calls.specs.declared.call.Call.{Call}
-use Rattle.service_calls.specs.Meanings.{model_request}
+use Rattle.service_calls.specs.{declared.call.Call.Call, Meanings.model_request}
 use Rattle.psa_status.specs.declared.Status.{Status}
 use Rattle.store_model.specs.Store as model
 use Rattle.store_model.specs.Prelude.{FaultMark, Plain, is_opaque_key, Entry}
-use Rattle.store_core.specs.declared.store.Opened.{Opened}
-use Rattle.store_core.specs.declared.store.Store.{Store}
-use Rattle.store_core.specs.Prelude.{HasOpaque, IsRefused, mark_of}
-use Rattle.locked_store.specs.declared.held.SharedStore.{SharedStore}
-use Rattle.locked_store.specs.Turning.{DecidesAfter, DecidesBefore, IsEnteredAfter, IsRanked, filling_pair, lease_pair, without_pair}
-use Rattle.locked_store.specs.Shared.{world}
+use Rattle.store_core.specs.{declared.store.Opened.Opened, declared.store.Store.Store, Prelude.HasOpaque, Prelude.IsRefused, Prelude.mark_of}
+use Rattle.locked_store.specs.{declared.held.SharedStore.SharedStore, Turning.DecidesAfter, Turning.DecidesBefore, Turning.IsEnteredAfter, Turning.IsRanked, Turning.filling_pair, Turning.lease_pair, Turning.without_pair, Shared.world}
 
 abbrev Pass : (V D A C : Type 0) → Type 0
 Pass V D A C = Seat (Option V) (View Entry (Opened D A C))

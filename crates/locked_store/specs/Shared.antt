@@ -4,8 +4,7 @@ use Rattle.store_core.specs.declared.store.Opened.{Opened}
 use Rattle.disk_face.specs.declared.Disk as disk
 use Rattle.driver_dispatch.specs.declared.devices.Devices as devices
 use Rattle.admission.specs.declared.rules.Admission as admission
-use Rattle.locked_store.specs.declared.held.SharedStore.{SharedStore}
-use Rattle.locked_store.specs.Worlds.{World, world_of}
+use Rattle.locked_store.specs.{declared.held.SharedStore.SharedStore, Worlds.World, Worlds.world_of}
 
 module _ {D A C : Type 0} {d : disk.Ghosts D} {a : devices.Ghosts A} {c : admission.Ghosts C} where
   unfoldable pub lock_of : SharedStore D A C d a c → TableId

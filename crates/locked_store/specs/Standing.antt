@@ -1,6 +1,5 @@
 -- What it is for the store under the lock to stand for a history, and for what the callers have out of it.
-use Rattle.std.specs.Prelude.{◌≡◌, ℕ, List, is_some}
-use Rattle.std.specs.List.{AllByRecursion}
+use Rattle.std.specs.{Prelude.◌≡◌, Prelude.ℕ, Prelude.List, Prelude.is_some, List.AllByRecursion}
 use Rattle.key_cells.specs.Prelude.{store_size}
 use Rattle.secret_bytes.specs.Buffer.{IsClear}
 use Rattle.disk_face.specs.declared.Disk as disk
@@ -8,8 +7,7 @@ use Rattle.driver_dispatch.specs.declared.devices.Devices as devices
 use Rattle.admission.specs.declared.rules.Admission as admission
 use Rattle.key_slots.specs.Holdings.{Pairs}
 use Rattle.store_model.specs.Prelude.{Plain, OnHandle, Abort, Service, IsCaller, Entry}
-use Rattle.store_core.specs.declared.store.Store.{Store}
-use Rattle.store_core.specs.Prelude.{StandsFor, AreRising, IsStart, opening_of}
+use Rattle.store_core.specs.{declared.store.Store.Store, Prelude.StandsFor, Prelude.AreRising, Prelude.IsStart, Prelude.opening_of}
 
 -- an entry of no history: one is named where none is made
 abbrev pub some_entry : Entry

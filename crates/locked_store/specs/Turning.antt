@@ -1,28 +1,19 @@
 -- A caller's pass between two turns, and what a turn adds to what it knows.
-use Rattle.std.specs.List.{AllByRecursion}
-use Rattle.std.specs.Prelude.{◌≡◌, ◌⊎◌, ◌<◌, ◌≤◌, ◌^◌, ℕ, ◌+◌, ◌==◌, ◌&&◌, false, cond, Result, nat_lt, count_by, List, [], ◌∷◌, ◌++◌, length, Option, Some, None, is_some, Ok, Err}
+use Rattle.std.specs.{List.AllByRecursion, Prelude.◌≡◌, Prelude.◌⊎◌, Prelude.◌<◌, Prelude.◌≤◌, Prelude.◌^◌, Prelude.ℕ, Prelude.◌+◌, Prelude.◌==◌, Prelude.◌&&◌, Prelude.false, Prelude.cond, Prelude.Result, Prelude.nat_lt, Prelude.count_by, Prelude.List, Prelude.[], Prelude.◌∷◌, Prelude.◌++◌, Prelude.length, Prelude.Option, Prelude.Some, Prelude.None, Prelude.is_some, Prelude.Ok, Prelude.Err}
 use Rattle.atomic_table.specs.declared.shared.Seat.{Seat}
-use Rattle.turn_history.specs.declared.pass.View.{View}
-use Rattle.turn_history.specs.Prelude.{entries_of, calls_by, StartsWith, held_by, IsInTurn, IsOutside, OwnCalls}
+use Rattle.turn_history.specs.{declared.pass.View.View, Prelude.entries_of, Prelude.calls_by, Prelude.StartsWith, Prelude.held_by, Prelude.IsInTurn, Prelude.IsOutside, Prelude.OwnCalls}
 use Rattle.disk_face.specs.declared.Disk as disk
 use Rattle.driver_dispatch.specs.declared.devices.Devices as devices
 use Rattle.slot_table.specs.Lent as lent
 use Rattle.key_attributes.specs.declared.Attributes.{Attributes}
-use Rattle.psa_status.specs.declared.Status.{Status}
-use Rattle.psa_status.specs.declared.Status.TheVariants.{Success}
+use Rattle.psa_status.specs.{declared.Status.Status, declared.Status.TheVariants.Success}
 use Rattle.key_slots.specs.Holdings.{Pairs, IsHolding, names}
 use Rattle.secure_element_calls.specs.Answers.{mark_computed}
 use Rattle.store_model.specs.Store as model
 use Rattle.store_model.specs.Prelude.{FaultMark, Plain, Service, created_unless, may_change_keys, IsCaller, Request, plain_step, Entry, replay, AreAllowed, IsCaused, id_read}
-use Rattle.store_core.specs.declared.store.Opened.{Opened}
-use Rattle.store_core.specs.declared.store.Store.{Store}
-use Rattle.store_core.specs.Prelude.{HasModel, IsTold, AreRising, IsStart, opening_of, is_destruction, mark_of, mark_undestroyed, mark_uncopied, mark_unmade}
-use Rattle.locked_store.specs.declared.changes.Change.{Change}
-use Rattle.locked_store.specs.declared.changes.Change.TheVariants.{Nothing, Lends, TakesLease, Reserves, TakesFilling}
-use Rattle.locked_store.specs.declared.changes.Met.{Met}
+use Rattle.store_core.specs.{declared.store.Opened.Opened, declared.store.Store.Store, Prelude.HasModel, Prelude.IsTold, Prelude.AreRising, Prelude.IsStart, Prelude.opening_of, Prelude.is_destruction, Prelude.mark_of, Prelude.mark_undestroyed, Prelude.mark_uncopied, Prelude.mark_unmade}
+use Rattle.locked_store.specs.{declared.changes.Change.Change, declared.changes.Change.TheVariants.Nothing, declared.changes.Change.TheVariants.Lends, declared.changes.Change.TheVariants.TakesLease, declared.changes.Change.TheVariants.Reserves, declared.changes.Change.TheVariants.TakesFilling, declared.changes.Met.Met, Standing.caller_of, Worlds.World}
 use Rattle.locked_store.specs.declared.changes.Met.TheVariants as met
-use Rattle.locked_store.specs.Standing.{caller_of}
-use Rattle.locked_store.specs.Worlds.{World}
 
 -- WHAT A CALLER HAS OUT
 

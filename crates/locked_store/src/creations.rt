@@ -1,6 +1,5 @@
 //! Turns of creations: a slot is reserved, and a key is put into it, or it is given up.
-ghost use Rattle.std.specs.Prelude.{◌≡◌, ◌<◌, ◌∷◌, length, IfOk, IfErr};
-ghost use Rattle.std.specs.Option.{option_map};
+ghost use Rattle.std.specs.{Prelude.◌≡◌, Prelude.◌<◌, Prelude.◌∷◌, Prelude.length, Prelude.IfOk, Prelude.IfErr, Option.option_map};
 ghost use Rattle.turn_history.specs.Prelude.{entries_of};
 ghost use Rattle.key_slots.specs.Holdings.{names};
 ghost use Rattle.service_calls.specs.Meanings.{model_request};

@@ -12,7 +12,8 @@ use driver_dispatch::Devices;
 use key_cells::OpenFault;
 use std::alloc::Global;
 use std::snapshot::Snapshot;
-use store_core::{Store, Unopened};
+use store_core::{Store, StoreFault, Unopened};
+use store_model::Limits;
 use turn_history::{Ending, HistoryLock, Pass, Refused};
 
 /// A store under its lock, and the passes of its callers, by their numbers from 1 on.
@@ -28,6 +29,7 @@ impl<D: Disk, A: Devices, C: Admission> SharedStore<D, A, C> {
         disk: D,
         devices: A,
         rules: C,
+        limits: Limits,
         seed: &[u8; 32],
     ) -> Result<Shared<D, A, C>, Unopened<D, A>>
         requires empty { (handle : ℕ) → Lacks (A.keys devices) handle }
@@ -41,10 +43,11 @@ impl<D: Disk, A: Devices, C: Admission> SharedStore<D, A, C> {
         ensures devices { IfOk result (λ made. (world made.0).opened.devices.value ≡ devices) }
         ensures seed { IfOk result (λ made. (world made.0).opened.seed.value ≡ seed.now) }
         ensures rules { IfOk result (λ made. (world made.0).opened.rules.value ≡ rules) }
-        ensures refused { IfErr result (λ unopened. IsNotOpened D.Disk disk unopened.disk unopened.fault) }
+        ensures limits { IfOk result (λ made. (world made.0).opened.limits.value ≡ limits) }
+        ensures refused { IfErr result (λ unopened. IsNotOpened D.Disk limits disk unopened.disk unopened.fault) }
         ensures returned { IfErr result (λ unopened. unopened.devices ≡ devices) }
     {
-        let store = Store::open(alloc, disk, devices, rules, seed)?;
+        let store = Store::open(alloc, disk, devices, rules, limits, seed)?;
         let seen = Seen {
             opened: Snapshot::of(&store.opened),
         };
@@ -56,7 +59,7 @@ impl<D: Disk, A: Devices, C: Admission> SharedStore<D, A, C> {
                 Err(Unopened {
                     disk,
                     devices,
-                    fault: OpenFault::Memory,
+                    fault: StoreFault::File(OpenFault::Memory),
                 })
             }
         }

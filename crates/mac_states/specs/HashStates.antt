@@ -1,12 +1,10 @@
 -- What a hash in several parts stands for.
 use Rattle.std.specs.Prelude.{◌≡◌, length}
-use Rattle.hash_ops.specs.declared.Hash.{Hash}
+use Rattle.hash_ops.specs.{declared.Hash.Hash, States.HashHolds, States.IsEmpty}
 use Rattle.hash_ops.specs.Hashes as hashes
-use Rattle.hash_ops.specs.States.{HashHolds, IsEmpty}
 use Rattle.store_model.specs.Prelude.{digest, hash_length_of, low_byte, Operation, HashWork}
 use Rattle.multipart.specs.States.{StandsForOperation}
-use Rattle.mac_states.specs.declared.running_hash.RunningHash.{RunningHash}
-use Rattle.mac_states.specs.declared.hash_state.HashOpState.{HashOpState}
+use Rattle.mac_states.specs.{declared.running_hash.RunningHash.RunningHash, declared.hash_state.HashOpState.HashOpState}
 
 -- the hasher is one of the algorithm's function, and has taken in the message
 pub record HoldsHash (s : RunningHash) (work : HashWork) : Type 0 where

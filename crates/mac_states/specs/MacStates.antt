@@ -1,18 +1,13 @@
 -- What a MAC in several parts stands for.
 use Rattle.std.specs.Prelude.{◌≡◌, ℕ, List, length, IfSome}
 use Rattle.hash_ops.specs.declared.Hash.{Hash}
-use Rattle.hmac_ops.specs.States.{HoldsHmac, IsWipedHmac}
-use Rattle.cmac_ops.specs.States.{HoldsCmac, IsWipedCmac}
+use Rattle.hmac_ops.specs.{States.HoldsHmac, States.IsWipedHmac, declared.state.HmacState.HmacState}
+use Rattle.cmac_ops.specs.{States.HoldsCmac, States.IsWipedCmac, declared.state.CmacState.CmacState}
 use Rattle.store_model.specs.Prelude.{tag_bytes, whole_mac, Operation, MacWork}
-use Rattle.key_policy.specs.declared.algorithms.MacKind.TheVariants.{Hmac, Cmac}
-use Rattle.key_policy.specs.Names.{whole_mac_by}
+use Rattle.key_policy.specs.{declared.algorithms.MacKind.TheVariants.Hmac, declared.algorithms.MacKind.TheVariants.Cmac, Names.whole_mac_by}
 use Rattle.multipart.specs.States.{StandsForOptional}
-use Rattle.cmac_ops.specs.declared.state.CmacState.{CmacState}
-use Rattle.hmac_ops.specs.declared.state.HmacState.{HmacState}
-use Rattle.mac_states.specs.declared.running_mac.Code.{Code}
+use Rattle.mac_states.specs.{declared.running_mac.Code.Code, declared.running_mac.RunningMac.RunningMac, declared.mac_state.MacState.MacState}
 use Rattle.mac_states.specs.declared.running_mac.Code.TheVariants as code
-use Rattle.mac_states.specs.declared.running_mac.RunningMac.{RunningMac}
-use Rattle.mac_states.specs.declared.mac_state.MacState.{MacState}
 
 -- the algorithm is HMAC, and that runs
 pub record IsHmac (hmac : HmacState) (work : MacWork) : Type 0 where

@@ -1,11 +1,9 @@
 // A hash in several parts.
 ghost use Rattle.std.specs.Prelude.{◌≡◌, false};
-ghost use Rattle.service_calls.specs.Answers.{plain_reply};
-ghost use Rattle.service_calls.specs.Meanings.{model_hash_step};
+ghost use Rattle.service_calls.specs.{Answers.plain_reply, Meanings.model_hash_step};
 ghost use Rattle.store_model.specs.Prelude.{Operation, Inactive, is_inactive, refusal, HashWork, hash_step};
-ghost use Rattle.mac_states.specs.HashStates.{IsClearHash, IsHashOperation};
+ghost use Rattle.mac_states.specs.{HashStates.IsClearHash, HashStates.IsHashOperation, Setups.hash_setup};
 ghost use Rattle.multipart.specs.Turns.{is_active, loses_key};
-ghost use Rattle.mac_states.specs.Setups.{hash_setup};
 
 use crate::running_hash::RunningHash;
 use alg_encoding::Alg;

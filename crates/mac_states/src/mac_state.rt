@@ -1,17 +1,13 @@
 // A MAC in several parts.
-ghost use Rattle.std.specs.Prelude.{◌≡◌, IsTrue, true, false};
-ghost use Rattle.std.specs.Option.{ForSome};
+ghost use Rattle.std.specs.{Prelude.◌≡◌, Prelude.IsTrue, Prelude.true, Prelude.false, Option.ForSome};
 ghost use Rattle.crypto_specs.specs.Prelude.{IsKey};
-ghost use Rattle.alg_encoding.specs.Encoding.{base_of};
+ghost use Rattle.alg_encoding.specs.{Encoding.base_of, declared.table.Class.TheVariants.Mac};
 ghost use Rattle.store_model.specs.Prelude.{cmac_base, Operation, Inactive, is_inactive, refusal, MacWork, mac_step};
-ghost use Rattle.service_calls.specs.Answers.{plain_reply};
-ghost use Rattle.service_calls.specs.Meanings.{model_mac_step};
-ghost use Rattle.alg_encoding.specs.declared.table.Class.TheVariants.{Mac};
+ghost use Rattle.service_calls.specs.{Answers.plain_reply, Meanings.model_mac_step};
 ghost use Rattle.key_policy.specs.Names.{IsOfClass};
 ghost use Rattle.multipart.specs.Turns.{is_active, loses_key};
 ghost use Rattle.multipart.specs.declared.Phase.TheVariants as phases;
-ghost use Rattle.mac_states.specs.Codes.{is_keyed};
-ghost use Rattle.mac_states.specs.Setups.{mac_setup};
+ghost use Rattle.mac_states.specs.{Codes.is_keyed, Setups.mac_setup};
 
 use crate::running_mac::RunningMac;
 use key_policy::NamedAlgorithm;

@@ -1,14 +1,11 @@
 // The MAC of a message that comes piece by piece.
-ghost use Rattle.std.specs.Prelude.{◌≡◌, ◌≤◌, ◌++◌, ℕ, Bool, IsTrue, false, true, IfOk, OnOk, length, take};
-ghost use Rattle.std.specs.Result.{result_err};
+ghost use Rattle.std.specs.{Prelude.◌≡◌, Prelude.◌≤◌, Prelude.◌++◌, Prelude.ℕ, Prelude.Bool, Prelude.IsTrue, Prelude.false, Prelude.true, Prelude.IfOk, Prelude.OnOk, Prelude.length, Prelude.take, Result.result_err};
 ghost use Rattle.psa_status.specs.Rows.{first_row};
 ghost use Rattle.crypto_specs.specs.Prelude.{IsKey};
-ghost use Rattle.store_model.specs.Prelude.{mac_of, mac_step, tag_bytes, whole_mac, total_rows, MacWork, mac_work, sign_rows, buffer_after, given, reply_unless};
-ghost use Rattle.store_model.specs.MacOperations.{verify_rows};
+ghost use Rattle.store_model.specs.{Prelude.mac_of, Prelude.mac_step, Prelude.tag_bytes, Prelude.whole_mac, Prelude.total_rows, Prelude.MacWork, Prelude.mac_work, Prelude.sign_rows, Prelude.buffer_after, Prelude.given, Prelude.reply_unless, MacOperations.verify_rows};
 ghost use Rattle.service_calls.specs.Meanings.{model_mac_step};
 ghost use Rattle.key_policy.specs.Names.{NamesMac, is_cmac};
-ghost use Rattle.mac_states.specs.Codes.{is_keyed};
-ghost use Rattle.mac_states.specs.MacStates.{HoldsMac, IsClearRunningMac};
+ghost use Rattle.mac_states.specs.{Codes.is_keyed, MacStates.HoldsMac, MacStates.IsClearRunningMac};
 
 use crate::total::Total;
 use cmac_ops::CmacState;

@@ -1,7 +1,6 @@
 -- Bytes compared one by one.
 
-use Rattle.std.proofs.Common.{Bool, List, [], ap, arith, bytes_eq, eqb, length, refl, sym, ℕ, ◌&&◌, ◌++◌, ◌∙◌, ◌∷◌, ◌≡◌}
-use Rattle.std.proofs.Math.Bool.{and_assoc, and-true}
+use Rattle.std.proofs.{Common.Bool, Common.List, Common.[], Common.ap, Common.arith, Common.bytes_eq, Common.eqb, Common.length, Common.refl, Common.sym, Common.ℕ, Common.◌&&◌, Common.◌++◌, Common.◌∙◌, Common.◌∷◌, Common.◌≡◌, Math.Bool.and_assoc, Math.Bool.and-true}
 
 pub bytes_eq_append : (xs ys front back : List ℕ) → length xs ≡ length ys → bytes_eq (xs ++ front) (ys ++ back) ≡ bytes_eq xs ys && bytes_eq front back
 bytes_eq_append [] [] front back e = refl

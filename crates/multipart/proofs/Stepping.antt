@@ -3,8 +3,7 @@ use Rattle.std.proofs.Common.{Err, None, Ok, OnOk, Option, Result, Some, if◌th
 use Rattle.std.specs.Result.{is_ok, result_err}
 use Rattle.psa_status.specs.declared.Status.{Status}
 use Rattle.store_model.specs.Prelude.{Reply, Active, After, ends, unless_failed}
-use Rattle.multipart.specs.Phases.{LeadsTo}
-use Rattle.multipart.specs.declared.Phase.{Phase}
+use Rattle.multipart.specs.{Phases.LeadsTo, declared.Phase.Phase}
 use Rattle.multipart.specs.declared.Phase.TheVariants as phase
 
 -- one after which the operation goes on with this work

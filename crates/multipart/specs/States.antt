@@ -1,9 +1,7 @@
 -- What the state of an operation stands for.
-use Rattle.std.specs.Prelude.{Option, IfSome}
-use Rattle.std.specs.Option.{IsSomeAnd}
+use Rattle.std.specs.{Prelude.Option, Prelude.IfSome, Option.IsSomeAnd}
 use Rattle.store_model.specs.Prelude.{Operation}
-use Rattle.multipart.specs.declared.state.OperationState.{OperationState}
-use Rattle.multipart.specs.Phases.{StandsFor}
+use Rattle.multipart.specs.{declared.state.OperationState.OperationState, Phases.StandsFor}
 
 -- by when what it runs is clear, and when that holds the work
 abbrev pub StandsForOperation : {W S : Type 0} → (is_clear : W → Type 0) (holds : W → S → Type 0) → OperationState W → Operation S → Type 0

@@ -1,6 +1,5 @@
 // What runs once a first operation has begun: until then there is nothing, and nothing to forget.
-ghost use Rattle.std.specs.Prelude.{IfSome};
-ghost use Rattle.std.specs.Option.{IsSomeAnd};
+ghost use Rattle.std.specs.{Prelude.IfSome, Option.IsSomeAnd};
 
 use crate::state::{Steps, Work};
 use crate::stepped::Stepped;

@@ -1,6 +1,5 @@
 // Bytes at the front of a buffer.
-ghost use Rattle.std.specs.Prelude.{◌≡◌, ◌≤◌, IfOk, length, replicate, take};
-ghost use Rattle.std.specs.Result.{result_err};
+ghost use Rattle.std.specs.{Prelude.◌≡◌, Prelude.◌≤◌, Prelude.IfOk, Prelude.length, Prelude.replicate, Prelude.take, Result.result_err};
 ghost use Rattle.psa_status.specs.Rows.{first_row};
 ghost use Rattle.store_model.specs.Prelude.{buffer_after, given, reply_unless, room_rows};
 

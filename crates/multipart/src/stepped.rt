@@ -1,9 +1,7 @@
 // What a step makes of an active operation.
-ghost use Rattle.std.specs.Prelude.{◌≡◌, ℕ, List, if◌then◌else◌};
-ghost use Rattle.std.specs.Result.{is_ok};
+ghost use Rattle.std.specs.{Prelude.◌≡◌, Prelude.ℕ, Prelude.List, Prelude.if◌then◌else◌, Result.is_ok};
 ghost use Rattle.store_model.specs.Prelude.{Reply, buffer_after};
-ghost use Rattle.service_calls.specs.Answers.{AnswersLength, AnswersOrSpoils, plain_reply};
-ghost use Rattle.service_calls.specs.Answered.{AnswersReply};
+ghost use Rattle.service_calls.specs.{Answers.AnswersLength, Answers.AnswersOrSpoils, Answers.plain_reply, Answered.AnswersReply};
 ghost use Rattle.multipart.specs.declared.Phase.TheVariants as phase;
 
 use crate::Phase;

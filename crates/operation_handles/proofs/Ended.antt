@@ -1,9 +1,8 @@
 -- An operation that isn't active leaves every state clear.
-use Rattle.operation_handles.proofs.Common.{Active, Aeads, Ciphers, Derivations, EndedOperationsAreClear, Hashes, InError, Inactive, Macs, Operation, is_active, false, ◌≡◌}
+use Rattle.operation_handles.proofs.{Common.Active, Common.Aeads, Common.Ciphers, Common.Derivations, Common.EndedOperationsAreClear, Common.Hashes, Common.InError, Common.Inactive, Common.Macs, Common.Operation, Common.is_active, Common.false, Common.◌≡◌, Fresh.all_quiet}
 use Rattle.multipart.specs.declared.Phase.{Phase}
 use Rattle.multipart.specs.declared.Phase.TheVariants as phase
 use Rattle.multipart.specs.Phases as Phases
-use Rattle.operation_handles.proofs.Fresh.{all_quiet}
 
 quiet_is_clear : {W : Type 0} (p : Phase) (clear : Type 0) (holds : W → Type 0) (own : Operation W) → is_active own ≡ false → Phases.StandsFor p clear holds own → clear
 quiet_is_clear phase.Inactive clear holds Inactive e h = h

@@ -1,8 +1,7 @@
 -- What one family sees of an operation, and what the states stand for once its own is another.
 use Rattle.std.proofs.Common.{Option, ap, false, inl, inr, refl, subst, sym, ◌∙◌, ◌≡◌, ◌⊎◌}
 use Rattle.operation_handles.proofs.Common.{Active, Aeads, Alg, AreStates, Ciphers, DerivationState, Derivations, Family, FamilyStates, HandleOperation, Hashes, InError, Inactive, IsOperationOf, KeyCreation, Macs, MayHave, Operation, StandsIn, WorkOf, embed_of, held_with, is_active, part_for, part_of}
-use Rattle.mac_states.specs.declared.hash_state.HashOpState.{HashOpState}
-use Rattle.mac_states.specs.declared.mac_state.MacState.{MacState}
+use Rattle.mac_states.specs.{declared.hash_state.HashOpState.HashOpState, declared.mac_state.MacState.MacState}
 use Rattle.cipher_states.specs.declared.state.CipherState.{CipherState}
 use Rattle.aead_states.specs.declared.state.AeadState.{AeadState}
 

@@ -1,8 +1,7 @@
 -- Inactive states, and an operation that was set up.
 use Rattle.std.proofs.Common.{rules}
 use Rattle.operation_handles.proofs.Common.{Active, Aeads, After, AreInactive, AreStates, Ciphers, Derivations, Family, FamilyStates, HandleOperation, Hashes, Held, InError, Inactive, IsDerivationOperation, KeyCreation, Macs, MayHave, Operation, StandsIn, Status, Work, WorkOf, embed_of, held_after, held_with, is_active, is_inactive, set_up, None, Option, Some, ap, false, inl, inr, refl, subst, sym, ◌∙◌, ◌≡◌}
-use Rattle.mac_states.specs.HashStates.{IsHashOperation}
-use Rattle.mac_states.specs.MacStates.{IsMacOperation}
+use Rattle.mac_states.specs.{HashStates.IsHashOperation, MacStates.IsMacOperation}
 use Rattle.cipher_states.specs.States.{IsCipherOperation}
 use Rattle.aead_states.specs.Holding.{IsAeadOperation}
 use Rattle.operation_handles.proofs.Families.{KeepsOtherFamilies, which}

@@ -1,10 +1,7 @@
 -- A key as the secret of a handle's derivation.
 use Rattle.operation_handles.proofs.Common.{Active, After, AreStates, BadState, by_key, bytes_of, derivation_part, Derivations, DerivationState, DerivationWork, Deriving, done, FamilyStates, first_row, goes_on, HandleOperation, Inactive, InError, InvalidArgument, IsConcrete, IsDerivationOperation, IsOperation, key_given, key_step, key_step_refusal, key_step_rows, KeyCreation, MayHave, on_active, Operation, OperationHandle, option_map, part_of, Reading, RefusesKeyAt, Status, TakesKeyAt, unless_failed, with_key, Bool, None, Option, Some, [], ap, false, is_some, not, refl, subst, sym, true, ℕ, ◌&&◌, ◌==◌, ◌∙◌, ◌∷◌, ◌≡◌}
 use Rattle.key_policy.specs.declared.key_use.KeyUse.TheVariants.{Derivation}
-use Rattle.operation_handles.proofs.Deriving.{goes_with, key_stays, unless_goes}
-use Rattle.operation_handles.proofs.Families.{keeps_all, keeps_put}
-use Rattle.operation_handles.proofs.Leases.{leased_as}
-use Rattle.operation_handles.proofs.Steps.{Took, answers, same_work, seen}
+use Rattle.operation_handles.proofs.{Deriving.goes_with, Deriving.key_stays, Deriving.unless_goes, Families.keeps_all, Families.keeps_put, Leases.leased_as, Steps.Took, Steps.answers, Steps.same_work, Steps.seen}
 
 -- what the derivations' state says of a step, before a key is looked at, and what the handle does
 abbrev pub Tells : OperationHandle → (step : ℕ) → Option Status → Type 0

@@ -1,10 +1,9 @@
 -- A key of a handle's derived bytes.
 use Rattle.std.proofs.Common.{rules, Bool, Err, List, None, Ok, Option, Some, [], ap, cond, false, is_some, nat_lt, not, refl, subst, sym, true, ℕ, ◌%◌, ◌++◌, ◌==◌, ◌||◌, ◌∙◌, ◌∷◌, ◌≡◌}
+use Rattle.std.specs.Prelude.{IsOk, Result}
 use Rattle.operation_handles.proofs.Common.{Active, After, AreStates, Attributes, BadState, Bytes, OperationHandle, DerivationState, DerivationWork, Derivations, Deriving, FamilyStates, HandleOperation, InError, Inactive, InsufficientData, InvalidArgument, IsDerivationOperation, IsDerivedKey, IsOperation, KeyCreation, MayHave, NotPermitted, NotSupported, Nothing, Operation, Reply, Status, Success, by_key, derivation_part, derived_key_bytes, exhausted, first_row, first_row-back, first_row-front, given, goes_on, is_active, key_of_operation, location, next_derived, on_active, output_key_refusal, output_key_rows, part_of, refusal, stated_bytes, taken_from, unless_failed, without}
 use Rattle.derivation_states.specs.Replies.{AnswersFront}
-use Rattle.operation_handles.proofs.Deriving.{derived_goes, goes_with, key_stays}
-use Rattle.operation_handles.proofs.Families.{View, Busy, Idle, keeps_all, keeps_put, view}
-use Rattle.operation_handles.proofs.Steps.{Took, answers, seen}
+use Rattle.operation_handles.proofs.{Deriving.derived_goes, Deriving.goes_with, Deriving.key_stays, Families.View, Families.Busy, Families.Idle, Families.keeps_all, Families.keeps_put, Families.view, Steps.Took, Steps.answers, Steps.seen}
 
 -- what the derivation may give
 
@@ -129,13 +128,19 @@ refused_not_given c a count old out some refused code =
     (λ w e none. refused some.0 some.1 (ap (λ o. output_key_refusal o a) (stands.seen w e) ∙ none)) (code stands.own stands.is.state)
 
 -- a refusal of a key that isn't refused
-pub due_not_refused : (c : OperationHandle) (a : Attributes) (status : Status) (old out : List ℕ) → (operation : HandleOperation) × IsOperation c operation →
+due_not_refused : (c : OperationHandle) (a : Attributes) (status : Status) (old out : List ℕ) → (operation : HandleOperation) × IsOperation c operation →
     ((operation : HandleOperation) → IsOperation c operation → output_key_refusal (part_of derivation_part operation) a ≡ None) →
     ((own : Operation DerivationWork) → IsDerivationOperation c.states.derivation own → AnswersFront 1025 (Err status) old out (on_active own (λ w. derived_key_bytes w a)).reply) → ⊥
 due_not_refused c a status old out some due code =
     let work = due_work (part_of derivation_part some.0) a (due some.0 some.1) in
     let found = seen Derivations c.states c.states some.1.key some.0 (keeps_all Derivations c.states) some.1.are work.0 work.1 in
     due_answered work.0 a status old out work.2 (code (Active work.0) found.is.state)
+
+pub due_answers : (c : OperationHandle) (a : Attributes) (result : Result ℕ Status) (old out : List ℕ) → (operation : HandleOperation) × IsOperation c operation →
+    ((operation : HandleOperation) → IsOperation c operation → output_key_refusal (part_of derivation_part operation) a ≡ None) →
+    ((own : Operation DerivationWork) → IsDerivationOperation c.states.derivation own → AnswersFront 1025 result old out (on_active own (λ w. derived_key_bytes w a)).reply) → IsOk result
+due_answers c a (Ok count) old out some due code = refl
+due_answers c a (Err status) old out some due code = absurd (due_not_refused c a status old out some due code)
 
 -- the bytes of a key that isn't refused
 pub derived : (c : OperationHandle) (state : DerivationState) (a : Attributes) (count : ℕ) (old out : List ℕ) (operation : HandleOperation) (w : DerivationWork) → IsOperation c operation → part_of derivation_part operation ≡ Active w →

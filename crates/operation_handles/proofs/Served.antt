@@ -3,8 +3,7 @@ use Rattle.operation_handles.proofs.Common.{Active, After, Alg, BadState, InErro
 use Rattle.store_model.proofs.Operations.{same_own, same_service}
 use Rattle.key_attributes.specs.declared.KeyId.{KeyId}
 use Rattle.service_calls.specs.declared.handle_calls.KeylessSetup.TheVariants as keyless
-use Rattle.service_calls.specs.declared.handle_calls.Purpose.TheVariants.{SignMac}
-use Rattle.service_calls.specs.declared.handle_calls.Setup.TheVariants.{Keyless, Keyed}
+use Rattle.service_calls.specs.{declared.handle_calls.Purpose.TheVariants.SignMac, declared.handle_calls.Setup.TheVariants.Keyless, declared.handle_calls.Setup.TheVariants.Keyed}
 use Rattle.service_calls.specs.declared.steps.Step.TheVariants as steps
 
 -- an operation that stays as it was

@@ -2,10 +2,8 @@
 use Rattle.std.proofs.Common.{rules}
 use Rattle.operation_handles.proofs.Common.{Active, applied, BadState, bytes_of_key, creation_of, derivation_key_rows, derivation_part, DerivationWork, Deriving, done, fails, first_row, first_row-front, goes_on, HandleOperation, has_live_key, held_after, Inactive, InError, input_key, is_concrete, Key, key_of_operation, key_step_rows, KeyCreation, KeyInputsAreTheModels, on_part, Operation, operation_of, part_of, Served, Service, Status, TakesKeyAt, unless_failed, use_refusal, with_key, with_live_key, Bool, None, Option, Some, ap, cond, false, refl, sym, true, ℕ, ◌∙◌, ◌≡◌}
 use Rattle.std.specs.FinMap as map
-use Rattle.key_policy.specs.declared.key_use.KeyUse.{KeyUse}
-use Rattle.key_policy.specs.Permissions.{pattern_refusal}
-use Rattle.operation_handles.proofs.Served.{untouched_is}
-use Rattle.operation_handles.proofs.Steps.{same_work}
+use Rattle.key_policy.specs.{declared.key_use.KeyUse.KeyUse, Permissions.pattern_refusal}
+use Rattle.operation_handles.proofs.{Served.untouched_is, Steps.same_work}
 
 -- what comes of a key, by whether the one before is alive and by the first row
 abbrev input_by : Service → (caller handle : ℕ) → DerivationWork → Option Key → (id : ℕ) → Bool → Option Status → Served

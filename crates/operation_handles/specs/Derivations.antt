@@ -2,8 +2,7 @@
 use Rattle.std.specs.Prelude.{ℕ, ◌≡◌}
 use Rattle.alg_encoding.specs.Encoding.{IsConcrete}
 use Rattle.store_model.specs.Prelude.{Operation, Inactive, InError, Active, DerivationWork}
-use Rattle.derivation_states.specs.States.{IsDerivationOperation}
-use Rattle.derivation_states.specs.declared.DerivationState.{DerivationState}
+use Rattle.derivation_states.specs.{States.IsDerivationOperation, declared.DerivationState.DerivationState}
 
 -- an active derivation has this algorithm
 abbrev pub HasAlgorithm : ℕ → Operation DerivationWork → Type 0

@@ -1,9 +1,7 @@
 -- What a handle stands for.
-use Rattle.std.specs.Prelude.{◌≡◌, Option}
-use Rattle.std.specs.Option.{option_map}
+use Rattle.std.specs.{Prelude.◌≡◌, Prelude.Option, Option.option_map}
 use Rattle.store_model.specs.Prelude.{KeyCreation, HandleOperation}
-use Rattle.operation_handles.specs.States.{AreStates}
-use Rattle.operation_handles.specs.declared.handle.OperationHandle.{OperationHandle}
+use Rattle.operation_handles.specs.{States.AreStates, declared.handle.OperationHandle.OperationHandle}
 
 -- the handle's operation is that of the states, held with the key of which the handle has the lease
 pub record IsOperation (c : OperationHandle) (operation : HandleOperation) : Type 0 where

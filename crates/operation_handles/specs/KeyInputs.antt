@@ -2,8 +2,7 @@
 use Rattle.std.specs.Prelude.{ℕ, ◌≡◌, Bool, None}
 use Rattle.psa_status.specs.Rows.{first_row}
 use Rattle.alg_encoding.specs.Encoding.{IsConcrete}
-use Rattle.key_policy.specs.declared.key_use.KeyUse.{KeyUse}
-use Rattle.key_policy.specs.declared.key_use.KeyUse.TheVariants.{Derivation}
+use Rattle.key_policy.specs.{declared.key_use.KeyUse.KeyUse, declared.key_use.KeyUse.TheVariants.Derivation}
 use Rattle.store_model.specs.Prelude.{done, After, Active, goes_on, unless_failed, DerivationWork, key_step_rows, Held, HandleOperation, Deriving, derivation_part, key_of_operation, part_of}
 use Rattle.operation_handles.specs.Steps.{on_part}
 

@@ -3,8 +3,7 @@ use Rattle.std.specs.Prelude.{ℕ, ◌≡◌, Bool, false, nat_lt, min, List, le
 use Rattle.psa_status.specs.Rows.{first_row}
 use Rattle.key_attributes.specs.declared.Attributes.{Attributes}
 use Rattle.derivation_states.specs.KeySteps.{derived_key_bytes}
-use Rattle.store_model.specs.Prelude.{After, DerivationWork, next_derived, output_key_rows, Held, HandleOperation, Deriving, derivation_part, part_of}
-use Rattle.store_model.specs.DerivationOperations.{stated_bytes}
+use Rattle.store_model.specs.{Prelude.After, Prelude.DerivationWork, Prelude.next_derived, Prelude.output_key_rows, Prelude.Held, Prelude.HandleOperation, Prelude.Deriving, Prelude.derivation_part, Prelude.part_of, DerivationOperations.stated_bytes}
 use Rattle.operation_handles.specs.Steps.{on_part}
 
 -- what the derivation makes of a key that it refuses, by whether the key that it has is still there

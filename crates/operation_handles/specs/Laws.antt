@@ -1,25 +1,15 @@
 -- Laws of operations, and how their calls are those of the model's service.
 use Rattle.std.specs.Prelude.{ℕ, ◌≡◌, Bool, true, false, Some, None}
 use Rattle.std.specs.FinMap as map
-use Rattle.psa_status.specs.declared.Status.{Status}
-use Rattle.psa_status.specs.declared.Status.TheVariants.{InvalidHandle}
+use Rattle.psa_status.specs.{declared.Status.Status, declared.Status.TheVariants.InvalidHandle}
 use Rattle.key_attributes.specs.declared.Attributes.{Attributes}
-use Rattle.key_policy.specs.declared.key_use.KeyUse.{KeyUse}
-use Rattle.key_policy.specs.Uses.{use_refusal}
+use Rattle.key_policy.specs.{declared.key_use.KeyUse.KeyUse, Uses.use_refusal}
 use Rattle.derivation_states.specs.KeySteps.{output_key_refusal}
 use Rattle.store_model.specs.Prelude.{done, recorded_of, bytes_of_key, Active, fails, goes_on, DerivationWork, with_key, HandleOperation, Deriving, Service, applied, derivation_part, is_alive, key_of_operation, operation_of, part_of, InputKey, OutputKey, creation_of, derived_key, handle_step, next_random}
 use Rattle.store_model.specs.DerivationOperations.{stated_bytes}
-use Rattle.service_calls.specs.Meanings.{model_setup, model_step}
-use Rattle.service_calls.specs.declared.handle_calls.Setup.{Setup}
-use Rattle.service_calls.specs.declared.steps.Step.{Step}
+use Rattle.service_calls.specs.{Meanings.model_setup, Meanings.model_step, declared.handle_calls.Setup.Setup, declared.steps.Step.Step}
 use Rattle.multipart.specs.Turns.{is_active}
-use Rattle.operation_handles.specs.States.{AreClear}
-use Rattle.operation_handles.specs.Handles.{IsOperation}
-use Rattle.operation_handles.specs.Setups.{set_up_by}
-use Rattle.operation_handles.specs.Steps.{stepped_by}
-use Rattle.operation_handles.specs.KeyInputs.{RefusesKeyAt, TakesKeyAt, key_refused}
-use Rattle.operation_handles.specs.KeyOutputs.{derived_key_refused}
-use Rattle.operation_handles.specs.declared.handle.OperationHandle.{OperationHandle}
+use Rattle.operation_handles.specs.{States.AreClear, Handles.IsOperation, Setups.set_up_by, Steps.stepped_by, KeyInputs.RefusesKeyAt, KeyInputs.TakesKeyAt, KeyInputs.key_refused, KeyOutputs.derived_key_refused, declared.handle.OperationHandle.OperationHandle}
 
 abbrev pub EndedOperationsAreClear : Type 0
 EndedOperationsAreClear = (c : OperationHandle) (operation : HandleOperation) → IsOperation c operation → is_active operation ≡ false → AreClear c.states

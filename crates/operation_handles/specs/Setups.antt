@@ -1,19 +1,14 @@
 -- What a setup makes of an operation.
 use Rattle.std.specs.Prelude.{ℕ, true, false, List, Option, Some, None}
 use Rattle.std.specs.FinMap as map
-use Rattle.psa_status.specs.Rows.{first_row}
-use Rattle.psa_status.specs.declared.Status.{Status}
+use Rattle.psa_status.specs.{Rows.first_row, declared.Status.Status}
 use Rattle.alg_encoding.specs.declared.algorithm.Alg.{Alg}
 use Rattle.alg_encoding.specs.declared.table.Class.TheVariants as class
 use Rattle.key_policy.specs.Uses.{use_refusal, used_for}
 use Rattle.store_model.specs.Prelude.{Key, Store, bytes_of_key, class_rows, creation_of, hash_work, mac_work, cipher_work, aead_work, derivation_work, After, Active, set_up, Held, HandleOperation, KeyCreation, Work, Hashing, Authenticating, Ciphering, Sealing, Deriving}
-use Rattle.service_calls.specs.declared.handle_calls.KeyedSetup.{KeyedSetup}
-use Rattle.service_calls.specs.declared.handle_calls.KeylessSetup.{KeylessSetup}
+use Rattle.service_calls.specs.{declared.handle_calls.KeyedSetup.KeyedSetup, declared.handle_calls.KeylessSetup.KeylessSetup, declared.handle_calls.Purpose.Purpose, declared.handle_calls.Setup.Setup, declared.handle_calls.Setup.TheVariants.Keyless, declared.handle_calls.Setup.TheVariants.Keyed}
 use Rattle.service_calls.specs.declared.handle_calls.KeylessSetup.TheVariants as keyless
-use Rattle.service_calls.specs.declared.handle_calls.Purpose.{Purpose}
 use Rattle.service_calls.specs.declared.handle_calls.Purpose.TheVariants as purpose
-use Rattle.service_calls.specs.declared.handle_calls.Setup.{Setup}
-use Rattle.service_calls.specs.declared.handle_calls.Setup.TheVariants.{Keyless, Keyed}
 
 -- WITHOUT A KEY
 

@@ -1,14 +1,11 @@
 -- What the states of all families stand for.
 use Rattle.std.specs.Prelude.{◌≡◌, true, is_some, Option, None}
 use Rattle.store_model.specs.Prelude.{Operation, Inactive, Active, KeyCreation, HandleOperation, held_with}
-use Rattle.mac_states.specs.HashStates.{IsHashOperation, IsClearHash}
-use Rattle.mac_states.specs.MacStates.{IsMacOperation, IsClearMac}
+use Rattle.mac_states.specs.{HashStates.IsHashOperation, HashStates.IsClearHash, MacStates.IsMacOperation, MacStates.IsClearMac}
 use Rattle.cipher_states.specs.States.{IsCipherOperation, IsClearCipher}
 use Rattle.aead_states.specs.Holding.{IsAeadOperation, IsClearAead}
 use Rattle.derivation_states.specs.States.{IsClearDerivation}
-use Rattle.operation_handles.specs.Families.{Family, Hashes, Macs, Ciphers, Aeads, Derivations, WorkOf, embed_of}
-use Rattle.operation_handles.specs.Derivations.{IsDerivation}
-use Rattle.operation_handles.specs.declared.states.FamilyStates.{FamilyStates}
+use Rattle.operation_handles.specs.{Families.Family, Families.Hashes, Families.Macs, Families.Ciphers, Families.Aeads, Families.Derivations, Families.WorkOf, Families.embed_of, Derivations.IsDerivation, declared.states.FamilyStates.FamilyStates}
 
 -- a family's state stands for an operation
 abbrev pub StandsIn : (family : Family) → FamilyStates → Operation (WorkOf family) → Type 0

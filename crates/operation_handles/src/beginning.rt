@@ -4,9 +4,7 @@ ghost use Rattle.secret_bytes.specs.Buffer.{bytes_of};
 ghost use Rattle.key_policy.specs.Uses.{FitsUse, used_for};
 ghost use Rattle.service_calls.specs.Answers.{plain_reply};
 ghost use Rattle.store_model.specs.Prelude.{HandleOperation, KeyCreation, Inactive};
-ghost use Rattle.operation_handles.specs.Handles.{IsOperation};
-ghost use Rattle.operation_handles.specs.Setups.{begun_with, set_up_without_key};
-ghost use Rattle.operation_handles.specs.States.{AreInactive, AreStates};
+ghost use Rattle.operation_handles.specs.{Handles.IsOperation, Setups.begun_with, Setups.set_up_without_key, States.AreInactive, States.AreStates};
 
 use crate::handle::OperationHandle;
 use crate::states::FamilyStates;

@@ -1,10 +1,8 @@
 // What stands at one handle.
-ghost use Rattle.std.specs.Prelude.{◌≡◌, true, false, None};
-ghost use Rattle.std.specs.Option.{option_map};
+ghost use Rattle.std.specs.{Prelude.◌≡◌, Prelude.true, Prelude.false, Prelude.None, Option.option_map};
 ghost use Rattle.store_model.specs.Prelude.{HandleOperation, Inactive, is_inactive};
 ghost use Rattle.multipart.specs.Turns.{is_active};
-ghost use Rattle.operation_handles.specs.Handles.{IsOperation};
-ghost use Rattle.operation_handles.specs.States.{AreInactive};
+ghost use Rattle.operation_handles.specs.{Handles.IsOperation, States.AreInactive};
 
 use crate::states::FamilyStates;
 use slot_table::Lease;

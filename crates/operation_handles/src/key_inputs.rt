@@ -4,8 +4,7 @@ ghost use Rattle.psa_status.specs.Rows.{first_row};
 ghost use Rattle.secret_bytes.specs.Buffer.{bytes_of};
 ghost use Rattle.service_calls.specs.Answers.{plain_reply};
 ghost use Rattle.store_model.specs.Prelude.{DerivationWork, key_step_rows, with_key, HandleOperation, KeyCreation, Deriving, derivation_part, part_of, Active, InError};
-ghost use Rattle.operation_handles.specs.Handles.{IsOperation};
-ghost use Rattle.operation_handles.specs.KeyInputs.{TakesKeyAt, RefusesKeyAt, key_refused};
+ghost use Rattle.operation_handles.specs.{Handles.IsOperation, KeyInputs.TakesKeyAt, KeyInputs.RefusesKeyAt, KeyInputs.key_refused};
 
 use crate::handle::OperationHandle;
 use key_policy::KeyUse;

@@ -1,10 +1,8 @@
 // A key of derived bytes.
 ghost use Rattle.std.specs.Prelude.{◌≡◌, ◌/◌, min, None};
 ghost use Rattle.derivation_states.specs.KeySteps.{output_key_refusal};
-ghost use Rattle.store_model.specs.DerivationOperations.{stated_bytes};
-ghost use Rattle.store_model.specs.Prelude.{DerivationWork, without, HandleOperation, Deriving, derivation_part, key_of_operation, part_of, Active, refusal};
-ghost use Rattle.operation_handles.specs.Handles.{IsOperation};
-ghost use Rattle.operation_handles.specs.KeyOutputs.{IsDerivedKey, derived_key_refused};
+ghost use Rattle.store_model.specs.{DerivationOperations.stated_bytes, Prelude.DerivationWork, Prelude.without, Prelude.HandleOperation, Prelude.Deriving, Prelude.derivation_part, Prelude.key_of_operation, Prelude.part_of, Prelude.Active, Prelude.refusal};
+ghost use Rattle.operation_handles.specs.{Handles.IsOperation, KeyOutputs.IsDerivedKey, KeyOutputs.derived_key_refused};
 
 use crate::handle::OperationHandle;
 use derivation_states::KEY_ROOM;
@@ -56,13 +54,9 @@ impl OperationHandle {
         ensures length { result ≡ min (attributes.now.bits / 8) 1025 }
         ensures lease { self.new.lease ≡ self.old.lease }
     {
-        match self
-            .states
+        self.states
             .derivation
             .key_derivation_output_key(attributes, out)
-        {
-            Ok(length) => length,
-            Err(_) => unreachable!(),
-        }
+            .unwrap()
     }
 }

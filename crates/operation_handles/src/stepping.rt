@@ -1,12 +1,9 @@
 // Steps of an operation.
 ghost use Rattle.std.specs.Prelude.{◌≡◌, ◌≤◌, ◌+◌, ◌^◌, length};
 ghost use Rattle.random_streams.specs.RandomWords.{drawn_from, next_bytes};
-ghost use Rattle.service_calls.specs.Answered.{AnswersReply};
-ghost use Rattle.service_calls.specs.Meanings.{model_step};
+ghost use Rattle.service_calls.specs.{Answered.AnswersReply, Meanings.model_step};
 ghost use Rattle.store_model.specs.Prelude.{buffer_after, HandleOperation};
-ghost use Rattle.operation_handles.specs.Handles.{IsOperation};
-ghost use Rattle.operation_handles.specs.Draws.{DrawsFew};
-ghost use Rattle.operation_handles.specs.Steps.{stepped_by};
+ghost use Rattle.operation_handles.specs.{Handles.IsOperation, Draws.DrawsFew, Steps.stepped_by};
 
 use crate::handle::OperationHandle;
 use crate::turns::turn;

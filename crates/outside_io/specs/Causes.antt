@@ -1,8 +1,5 @@
 -- What the calls on a source and a sink tell.
-use Rattle.std.specs.Prelude.{◌≡◌, ℕ, ◌<◌, List, length, take, Result, MatchResult, IfOk}
-use Rattle.std.specs.Prelude.{is_some}
-use Rattle.std.specs.Io.KnownBytes.{Appends}
-use Rattle.std.specs.declared.option.Option.{Option}
+use Rattle.std.specs.{Prelude.◌≡◌, Prelude.ℕ, Prelude.◌<◌, Prelude.List, Prelude.length, Prelude.take, Prelude.Result, Prelude.MatchResult, Prelude.IfOk, Prelude.is_some, Io.KnownBytes.Appends, declared.option.Option.Option}
 pub use Rattle.psa_status.specs.Causes.{one_more, Rose, HasCause}
 
 -- how many bytes a text may have: 4 MiB

@@ -1,7 +1,5 @@
 -- The forms in memory: what each stands for, and what a call leaves.
-use Rattle.std.specs.Prelude.{ℕ, Bool, List, ◌++◌, ◌==◌, length, drop, min}
-use Rattle.std.specs.Prelude.{if◌then◌else◌}
-use Rattle.std.specs.List.{list_any}
+use Rattle.std.specs.{Prelude.ℕ, Prelude.Bool, Prelude.List, Prelude.◌++◌, Prelude.◌==◌, Prelude.length, Prelude.drop, Prelude.min, Prelude.if◌then◌else◌, List.list_any}
 use Rattle.outside_io.specs.Causes.{one_more}
 
 -- a source: the bytes that are left, the numbers of the calls that fail, the calls so far, and the faults so far

@@ -1,9 +1,6 @@
 // The forms in memory.
-ghost use Rattle.std.specs.Prelude.{◌≡◌, ◌≤◌, ◌<◌, ◌++◌, ◌↔◌, [], min, length, take, Some, drop, IfOk, OnErr, IsErr, true, false, if◌then◌else◌};
-ghost use Rattle.std.specs.Io.{ReadsAtMost, WritesAtMost};
-ghost use Rattle.std.specs.Io.KnownBytes.{ReadConsumes};
-ghost use Rattle.outside_io.specs.Causes.{HasCause, TellsAsBefore, Takes, Progresses};
-ghost use Rattle.outside_io.specs.Forms.{must_fail, after_read, after_write, failed_write, refused_write};
+ghost use Rattle.std.specs.{Prelude.◌≡◌, Prelude.◌≤◌, Prelude.◌<◌, Prelude.◌++◌, Prelude.◌↔◌, Prelude.[], Prelude.min, Prelude.length, Prelude.take, Prelude.Some, Prelude.drop, Prelude.IfOk, Prelude.OnErr, Prelude.IsErr, Prelude.true, Prelude.false, Prelude.if◌then◌else◌, Io.ReadsAtMost, Io.WritesAtMost, Io.KnownBytes.ReadConsumes};
+ghost use Rattle.outside_io.specs.{Causes.HasCause, Causes.TellsAsBefore, Causes.Takes, Causes.Progresses, Forms.must_fail, Forms.after_read, Forms.after_write, Forms.failed_write, Forms.refused_write};
 
 use crate::{Sink, Source};
 use psa_status::Failed;

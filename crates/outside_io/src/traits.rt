@@ -1,8 +1,5 @@
 // The two traits. A count of faults that is said to rise stands still at 2^64 - 1.
-ghost use Rattle.std.specs.Prelude.{ℕ, List};
-ghost use Rattle.std.specs.declared.option.Option.{Option};
-ghost use Rattle.std.specs.Io.{ReadsAtMost, WritesAtMost};
-ghost use Rattle.std.specs.Io.KnownBytes.{ReadConsumes};
+ghost use Rattle.std.specs.{Prelude.ℕ, Prelude.List, declared.option.Option.Option, Io.ReadsAtMost, Io.WritesAtMost, Io.KnownBytes.ReadConsumes};
 ghost use Rattle.outside_io.specs.Causes.{HasCause, TellsAsBefore, Takes, Progresses};
 
 use psa_status::Failed;

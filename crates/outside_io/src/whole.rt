@@ -1,6 +1,5 @@
 // Whole texts, read and written.
-ghost use Rattle.std.specs.Prelude.{◌≡◌, ◌≤◌, ◌<◌, ◌+◌, length, take, ℕ, List, IfOk, IfSome, OnOk, OnErr, IsErrOf};
-ghost use Rattle.std.specs.Io.KnownBytes.{IsAtEnd, Appends, Consumes};
+ghost use Rattle.std.specs.{Prelude.◌≡◌, Prelude.◌≤◌, Prelude.◌<◌, Prelude.◌+◌, Prelude.length, Prelude.take, Prelude.ℕ, Prelude.List, Prelude.IfOk, Prelude.IfSome, Prelude.OnOk, Prelude.OnErr, Prelude.IsErrOf, Io.KnownBytes.IsAtEnd, Io.KnownBytes.Appends, Io.KnownBytes.Consumes};
 ghost use Rattle.outside_io.specs.Causes.{text_limit, Rose, HasCause, TellsAsBefore};
 
 use crate::{Sink, Source};

@@ -1,6 +1,6 @@
 -- An image that fits the contents of a filed store has its keys, and maybe some that are in doubt.
-use Rattle.persistent_keys.proofs.Common.{Absent, ap, arith, Attributes, body, cell_state, CellState, Content, content_at, Doubt, Doubtful, eqb-true, Fits, FitsCell, FitsKeys, gate, has_id, HasKey, HoldsKey, inl, inr, IsDamaged, IsDoubted, IsFiled, IsOf, Keys, length, List, of_one_key, Open, opened_gate, Present, refl, Some, Stored, stored, subst, sym, TellsCell, true, ℕ, ⊎_elim, ◌<◌, ◌∙◌, ◌≡◌, ◌⊎◌, cell_count}
-use Rattle.key_cells.proofs.Finding.{id_of}
+use Rattle.persistent_keys.proofs.Common.{Absent, ap, arith, Attributes, body, cell_state, cells_by, cells_of, CellState, Content, content_at, Doubt, Doubtful, eqb-true, Fits, FitsCell, FitsKeys, gate, has_id, HasKey, HoldsKey, inl, inr, IsDamaged, IsDoubted, IsFiled, IsOf, Keys, length, List, of_one_key, Open, opened_gate, Present, refl, Some, Stored, stored, subst, sym, TellsCell, true, ℕ, ⊎_elim, ◌<◌, ◌∙◌, ◌≡◌, ◌⊎◌, cell_count}
+use Rattle.key_cells.proofs.{Finding.id_of, Layouts.header_layout, Layouts.header_store}
 
 -- what is told of an open cell
 pub tells_open : (keys : Keys) (doubt : Doubt) (state : CellState) (content : Content) (id : ℕ) → has_id id state ≡ true → TellsCell keys doubt state content
@@ -31,6 +31,9 @@ open_tells keys doubt state (Doubtful body) g b t fits is = doubtful state t
     doubtful state t = (t.0, t.1, subst (λ (x : List ℕ). HoldsKey t.0 t.1 x) (sym (fits is)) t.2, (t.0, t.1, t.2, refl), inr t.3)
 
 module _ (keys : Keys) (doubt : Doubt) (states : List CellState) (contents : List Content) (count : length contents ≡ cell_count) (f : IsFiled keys doubt states contents) (image : List ℕ) (fits : Fits contents image) where
+  all_cells : cells_of image ≡ cell_count
+  all_cells = ap cells_by (header_layout image fits.header)
+
   at : (cell : ℕ) → cell < cell_count → gate cell image ≡ opened_gate → (a : Attributes) × (bytes : List ℕ) × HoldsKey a bytes (body cell image) × IsOf a.id.0 (content_at contents cell) × Tells keys doubt a bytes
   at cell lt is = open_tells keys doubt (cell_state states cell) (content_at contents cell) (gate cell image) (body cell image) (f.each cell lt) (fits.each cell lt) is
 
@@ -53,18 +56,18 @@ module _ (keys : Keys) (doubt : Doubt) (states : List CellState) (contents : Lis
       let o = tells_open keys doubt (cell_state states c.0) (content_at contents c.0) id c.2 (f.each c.0 c.1) in
       let same : key ≡ stored o.0 o.2 o.3 = let e : Some key ≡ Some (stored o.0 o.2 o.3) = sym is ∙ o.8 in cc in
       let shown : FitsCell (Present o.1) (gate c.0 image) (body c.0 image) = subst (λ (x : Content). FitsCell x (gate c.0 image) (body c.0 image)) o.5 (fits.each c.0 c.1) in
-      subst (λ (k : Stored). HasKey k.attributes k.bytes image) (sym same) (c.0, c.1, shown.0, subst (λ (x : List ℕ). HoldsKey o.2 o.3 x) (sym shown.1) o.6)
+      subst (λ (k : Stored). HasKey k.attributes k.bytes image) (sym same) (c.0, omega (arith, c.1, all_cells), shown.0, subst (λ (x : List ℕ). HoldsKey o.2 o.3 x) (sym shown.1) o.6)
 
   only_these : (a : Attributes) (bytes : List ℕ) → HasKey a bytes image → ((creation : ℕ) × (keys a.id.0 ≡ Some (stored creation a bytes))) ⊎ IsDoubted doubt a bytes
   unfolding Tells
   only_these a bytes has =
-      let here = at has.0 has.1 has.2 in
+      let here = at has.0 (omega (arith, has.1, all_cells)) has.2 in
       let same = of_one_key here.0 a here.1 bytes (body has.0 image) here.2 has.3 in
       subst (λ (b : List ℕ). Tells keys doubt a b) same.1 (subst (λ (x : Attributes). Tells keys doubt x here.1) same.0 here.4)
 
   pub filed_fits : FitsKeys keys doubt image
   filed_fits = record {
-    opens = record { store = record { size = fits.size; header = fits.header }; sound = undamaged };
+    opens = record { store = header_store image fits.size fits.header; sound = λ cell lt damaged. undamaged cell (omega (arith, lt, all_cells)) damaged };
     there = has_key;
     only = only_these;
   }

@@ -1,9 +1,10 @@
 -- What a file stands for that was opened.
-use Rattle.persistent_keys.proofs.Common.{Absent, AreFound, Content, Finds, Free, HasOneEach, HoldsId, HoldsKey, IfSome, IsFiled, IsFoundIn, IsOf, IsOpened, Keys, List, None, Open, Option, Present, CellState, Some, StandsForKeys, Stored, TellsCell, [], ap, arith, body, cases_eq, cell_state, cond, content_at, content_of, creation_of_state, false, found_in, gate, get_or-replicate, has_id, length, ne_eqb, refl, stored, subst, suc, sym, true, zero, ℕ, ⊎_elim, ◌+◌, ◌<◌, ◌==◌, ◌∙◌, ◌∷◌, ◌≡◌, ◌≢◌, ◌≤◌, cell_count}
+use Rattle.persistent_keys.proofs.Common.{Absent, AreFound, Content, Finds, Free, HasOneEach, HoldsId, HoldsKey, IfSome, IsFiled, IsFoundIn, IsOf, IsOpened, Keys, List, None, Open, Option, Present, CellState, Some, StandsForKeys, Stored, TellsCell, [], ap, arith, body, cases_eq, cell_state, cells_of, cond, content_at, content_of, creation_of_state, false, found_in, gate, get_or-replicate, has_id, length, ne_eqb, refl, stored, subst, suc, sym, true, zero, ℕ, ⊎_elim, ◌+◌, ◌<◌, ◌==◌, ◌∙◌, ◌∷◌, ◌≡◌, ◌≢◌, ◌≤◌, cell_count}
 use Rattle.disk_face.specs.declared.Disk as Disk
-use Rattle.std.proofs.lemmas.Bool.{eqb-true, eq-eqb}
+use Rattle.std.proofs.{lemmas.Bool.eqb-true, lemmas.Bool.eq-eqb, lemmas.Bool.cases_lt}
 use Rattle.key_cells.specs.Contents as cells
-use Rattle.key_cells.proofs.{CellsRead.content_there, Opened.not_opened}
+use Rattle.key_cells.specs.Opening.{IsImageDirectory}
+use Rattle.key_cells.proofs.{CellsRead.content_beyond, CellsRead.content_there, CellsRead.content_within, Opened.not_opened}
 use Rattle.persistent_keys.proofs.Filing.{one_id}
 
 false_true : false ≡ true → ⊥
@@ -55,7 +56,12 @@ module _ (states : List CellState) (contents : List Content) (image : List ℕ) 
 found_each : (image : List ℕ) (states : List CellState) → IsFoundIn image states → (cell : ℕ) → cell < cell_count → FoundIn (cell_state states cell) (content_at (found_in image) cell) (body cell image)
 unfolding FoundIn
 found_each [] states is cell lt = rw (ap (λ (l : List CellState). cell_state l cell) is ∙ get_or-replicate cell_count cell Free Free lt, get_or-replicate cell_count cell Absent Absent lt) tt
-found_each (byte ∷ rest) states is cell lt = rw (content_there cell (byte ∷ rest) lt) (found_cell (cell_state states cell) (gate cell (byte ∷ rest)) (body cell (byte ∷ rest)) (is.each cell lt))
+found_each (byte ∷ rest) states is cell lt =
+    let image : List ℕ = byte ∷ rest in
+    ⊎_elim
+    (λ within. rw (content_there cell image lt ∙ content_within cell image within) (found_cell (cell_state states cell) (gate cell image) (body cell image) (is.each cell within)))
+    (λ past. rw (is.beyond cell past, content_there cell image lt ∙ content_beyond cell image past) tt)
+    (cases_lt cell (cells_of image))
 
 module _ {D : Type 0} (disks : Disk.Ghosts D) where
   pub found_stands : (old new : D) (states : List CellState) → IsOpened disks old new states
@@ -78,9 +84,26 @@ record KeysBelow (image : List ℕ) (states : List CellState) (count : ℕ) : Ty
       (cell : ℕ) × (cell < count) × (has_id id (cell_state states cell) ≡ true) × HoldsKey key.attributes key.bytes (body cell image) × (key.creation ≡ creation_of_state (cell_state states cell))
   all : (id cell : ℕ) → cell < count → has_id id (cell_state states cell) ≡ true → (key : Stored) × (keys id ≡ Some key)
 
+-- what an opening found in a cell: nothing, or the body of its key
+abbrev HasBody : CellState → List ℕ → Type 0
+HasBody Free body = Unit {0}
+HasBody (Open id creation) body = HoldsId id body
+HasBody _ body = ⊥
+
+found_body : (state : CellState) (g b : List ℕ) → Finds state g b → HasBody state b
+found_body Free g b f = tt
+found_body (Open id creation) g b f = f.1
+found_body state g b f = absurd f
+
+each_body : (image : List ℕ) (states : List CellState) → IsImageDirectory states image → (cell : ℕ) → cell < cell_count → HasBody (cell_state states cell) (body cell image)
+each_body image states is cell lt = ⊎_elim
+    (λ within. found_body (cell_state states cell) (gate cell image) (body cell image) (is.each cell within))
+    (λ past. rw (is.beyond cell past) tt)
+    (cases_lt cell (cells_of image))
+
 -- one cell more
-keys_next : (image : List ℕ) (states : List CellState) (count : ℕ) → KeysBelow image states count → (state : CellState) (g : List ℕ) → cell_state states count ≡ state → Finds state g (body count image) → KeysBelow image states (count + 1)
-keys_next image states count below Free g is f = record {
+keys_next : (image : List ℕ) (states : List CellState) (count : ℕ) → KeysBelow image states count → (state : CellState) → cell_state states count ≡ state → HasBody state (body count image) → KeysBelow image states (count + 1)
+keys_next image states count below Free is f = record {
   keys = below.keys;
   there = λ id key e. let t = below.there id key e in (t.0, omega (arith, t.1), t.2, t.3, t.4);
   all = λ id cell lt has. ⊎_elim
@@ -88,15 +111,15 @@ keys_next image states count below Free g is f = record {
       (λ differs. below.all id cell (omega (arith, lt, differs)) has)
       (cases_eq cell count);
 }
-keys_next image states count below (Open own creation) g is f =
-    let a = f.1.0 in
-    let key : Stored = stored creation a f.1.1 in
+keys_next image states count below (Open own creation) is f =
+    let a = f.0 in
+    let key : Stored = stored creation a f.1 in
     record {
       keys = λ id. cond (id == own) (Some key) (below.keys id);
       there = λ id k e. ⊎_elim
           (λ same. let z : Some key ≡ Some k = ap (λ t. cond t (Some key) (below.keys id)) (sym (eq-eqb id own same)) ∙ e in
           let k_is : key ≡ k = cc in
-          (count, omega arith, ap (has_id id) is ∙ eq-eqb own id (sym same), subst (λ (x : Stored). HoldsKey x.attributes x.bytes (body count image)) k_is f.1.2, ap (λ (x : Stored). x.creation) (sym k_is) ∙ sym (ap creation_of_state is)))
+          (count, omega arith, ap (has_id id) is ∙ eq-eqb own id (sym same), subst (λ (x : Stored). HoldsKey x.attributes x.bytes (body count image)) k_is f.2, ap (λ (x : Stored). x.creation) (sym k_is) ∙ sym (ap creation_of_state is)))
           (λ differs. let t = below.there id k (ap (λ t. cond t (Some key) (below.keys id)) (sym (ne_eqb id own differs)) ∙ e) in (t.0, omega (arith, t.1), t.2, t.3, t.4))
           (cases_eq id own);
       all = λ id cell lt has. ⊎_elim
@@ -109,16 +132,16 @@ keys_next image states count below (Open own creation) g is f =
   where
     not_last : (id cell : ℕ) → id ≢ own → has_id id (cell_state states cell) ≡ true → cell ≢ count
     not_last id cell differs has same = differs (sym (eqb-true own id (sym (ap (has_id id) (ap (cell_state states) same ∙ is)) ∙ has)))
-keys_next image states count below state g is f = absurd f
+keys_next image states count below state is f = absurd f
 
-keys_below : (image : List ℕ) (states : List CellState) → ((cell : ℕ) → cell < cell_count → Finds (cell_state states cell) (gate cell image) (body cell image)) → (count : ℕ) → count ≤ cell_count → KeysBelow image states count
+keys_below : (image : List ℕ) (states : List CellState) → ((cell : ℕ) → cell < cell_count → HasBody (cell_state states cell) (body cell image)) → (count : ℕ) → count ≤ cell_count → KeysBelow image states count
 keys_below image states each zero le = record {
   keys = λ id. None;
   there = λ id key e. cc;
   all = λ id cell lt has. absurd (omega (arith, lt));
 }
 keys_below image states each (suc count) le =
-    subst (λ (n : ℕ). KeysBelow image states n) (omega arith) (keys_next image states count (keys_below image states each count (omega (arith, le))) (cell_state states count) (gate count image) refl (each count (omega (arith, le))))
+    subst (λ (n : ℕ). KeysBelow image states n) (omega arith) (keys_next image states count (keys_below image states each count (omega (arith, le))) (cell_state states count) refl (each count (omega (arith, le))))
 
 -- an opening found keys
 pub found_keys : (image : List ℕ) (states : List CellState) → IsFoundIn image states → (keys : Keys) × AreFound image states keys
@@ -130,7 +153,7 @@ found_keys [] states is = (
   },
 )
 found_keys (byte ∷ rest) states is =
-    let below = keys_below (byte ∷ rest) states is.each cell_count (omega arith) in
+    let below = keys_below (byte ∷ rest) states (each_body (byte ∷ rest) states is) cell_count (omega arith) in
     (below.keys, record { there = below.there; all = below.all })
 
 pub some_found : (told : Option (List ℕ)) (states : List CellState) → IfSome told (λ image. IsFoundIn image states) → IfSome told (λ image. (keys : Keys) × AreFound image states keys)

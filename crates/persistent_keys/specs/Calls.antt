@@ -2,9 +2,7 @@
 use Rattle.disk_face.specs.declared.Disk as Disk
 use Rattle.std.specs.Prelude.{◌≡◌, ℕ, Bool, List, [], Option, None, Some}
 use Rattle.key_attributes.specs.declared.Attributes.{Attributes}
-use Rattle.persistent_keys.specs.declared.file.KeyFile.{KeyFile}
-use Rattle.persistent_keys.specs.declared.file.MakeFault.{MakeFault}
-use Rattle.persistent_keys.specs.Files.{Stored, Keys, Doubt, StandsForKeys, Leads, IsPut, doubt_unmade, doubt_undestroyed}
+use Rattle.persistent_keys.specs.{declared.file.KeyFile.KeyFile, declared.file.MakeFault.MakeFault, Files.Stored, Files.Keys, Files.Doubt, Files.StandsForKeys, Files.Leads, Files.IsPut, Files.doubt_unmade, Files.doubt_undestroyed}
 
 module _ {D : Type 0} (disks : Disk.Ghosts D) where
   -- the file stands for keys, and for those in doubt

@@ -3,12 +3,10 @@ use Rattle.disk_face.specs.declared.Disk as Disk
 use Rattle.std.specs.Prelude.{◌≡◌, ◌⊎◌, ℕ, ◌<◌, ◌==◌, Bool, true, false, cond, List, [], ◌∷◌, length, Option, Some, ⊤}
 use Rattle.disk_face.specs.Moments.{Within}
 use Rattle.key_attributes.specs.declared.Attributes.{Attributes}
-use Rattle.key_cells.specs.declared.state.CellState.{CellState}
-use Rattle.key_cells.specs.declared.state.CellState.TheVariants.{Free, Open, Shut, Unsure}
+use Rattle.key_cells.specs.{declared.state.CellState.CellState, declared.state.CellState.TheVariants.Free, declared.state.CellState.TheVariants.Open, declared.state.CellState.TheVariants.Shut, declared.state.CellState.TheVariants.Unsure}
 use Rattle.key_cells.specs.Prelude.{body, Content, Absent, Present, Doubtful, HasZeros, cell_state, content_at, has_id, creation_of_state, HoldsKey, HoldsId, Opens, HasKey, cell_count}
 use Rattle.key_cells.specs.Contents as cells
-use Rattle.persistent_keys.specs.declared.file.MakeFault.{MakeFault}
-use Rattle.persistent_keys.specs.declared.file.MakeFault.TheVariants.{Full, Disk}
+use Rattle.persistent_keys.specs.{declared.file.MakeFault.MakeFault, declared.file.MakeFault.TheVariants.Full, declared.file.MakeFault.TheVariants.Disk}
 
 -- a key of the file
 pub record Stored : Type 0 where

@@ -2,11 +2,9 @@
 ghost use Rattle.std.specs.Prelude.{◌≡◌, ◌≤◌, ◌<◌, ◌↔◌, ℕ, List, length, set, Bool, [], true, false, None, Some, IfOk, IfErr, IfSome, OnOk, OnErr, IsErrOf, MatchOption, count_by};
 ghost use Rattle.psa_status.specs.Causes.{HasCause, Rose};
 ghost use Rattle.disk_face.specs.Disk.{StillTells};
-ghost use Rattle.key_cells.specs.Contents.{StaysFree, StaysFreeBut};
-ghost use Rattle.key_cells.specs.declared.state.CellState.TheVariants.{Free, Open};
-ghost use Rattle.key_cells.specs.Prelude.{Calm, HasNoKey, IsFirstWithKey, IsFirstWithoutKey, IsFull, IsSure, has_id, is_open, creation_of_state, settled_states, cell_state, IsKeyOf, IsOpened, IsOpeningRefused, cell_count, store_size};
-ghost use Rattle.persistent_keys.specs.{Files.stored, Files.Keys, Files.Doubt, Files.AreFound, Calls.StandsForThese, Calls.HasStored, Calls.KeepsFile, Calls.PutsInFile, Calls.LeavesUnmade, Calls.LeavesUndestroyed};
-ghost use Rattle.persistent_keys.specs.declared.file.MakeFault.TheVariants.{Disk};
+ghost use Rattle.key_cells.specs.{Contents.StaysFree, Contents.StaysFreeBut, declared.state.CellState.TheVariants.Free, declared.state.CellState.TheVariants.Open};
+ghost use Rattle.key_cells.specs.Prelude.{Calm, is_of_range, HasNoKey, IsFirstWithKey, IsFirstWithoutKey, IsFull, IsSure, has_id, is_open, creation_of_state, settled_states, cell_state, IsKeyOf, IsOpened, IsOpeningRefused, cell_count, store_size};
+ghost use Rattle.persistent_keys.specs.{Files.stored, Files.Keys, Files.Doubt, Files.AreFound, Calls.StandsForThese, Calls.HasStored, Calls.KeepsFile, Calls.PutsInFile, Calls.LeavesUnmade, Calls.LeavesUndestroyed, declared.file.MakeFault.TheVariants.Disk};
 ghost use Rattle.secret_bytes.specs.Buffer.{bytes_of, IsClear};
 
 use disk_face::Disk;
@@ -174,6 +172,13 @@ impl<D: Disk> KeyFile<D> {
         ensures sized { length self.now.cells.states ≡ cell_count }
     {
         self.cells.count()
+    }
+
+    /// How many of them have an identifier of a range.
+    pub fn in_range(&self, range: u32) -> usize
+        ensures { result ≡ count_by (is_of_range range) self.now.cells.states }
+    {
+        self.cells.in_range(range)
     }
 
     /// The disk.

@@ -2,9 +2,7 @@
 use Rattle.policy_rules.proofs.Common.{Bool, HasOneAlgorithm, IfSome, IsFilled, IsWithin, List, MayUseBoth, None, Option, PermitsBoth, Some, [], allows, and_from, and_parts, ap, bit_and, both_ways, chain_of, copy_of, eq-eqb, eqb, eqb-true, false, has_usage, is_concrete, may_use, meet_algorithm, meet_of, or_left, or_right, permits_algorithm, refl, subst, sym, true, with_implied, with_meets, ℕ, ◌&&◌, ◌||◌, ◌↔◌, ◌∙◌, ◌∷◌, ◌≡◌}
 use Rattle.std.specs.Option.{option_map, option_and_then}
 use Rattle.key_attributes.specs.declared.Policy.{Policy}
-use Rattle.policy_rules.proofs.Meets.{Both, meet_both}
-use Rattle.policy_rules.proofs.Permitted.{permits-zero}
-use Rattle.policy_rules.proofs.Usages.{Includes, includes-and_l, includes-and_r, includes-trans, includes-refl, includes-both, includes-implied, implied-implied}
+use Rattle.policy_rules.proofs.{Meets.Both, Meets.meet_both, Permitted.permits-zero, Usages.Includes, Usages.includes-and_l, Usages.includes-and_r, Usages.includes-trans, Usages.includes-refl, Usages.includes-both, Usages.includes-implied, Usages.implied-implied}
 
 is_both : (m x y : Bool) → m ≡ (x && y) → (m ≡ true) ↔ ((x ≡ true) × (y ≡ true))
 is_both m x y e = (λ h. and_parts x y (sym e ∙ h), λ h. e ∙ and_from x y h.0 h.1)

@@ -1,10 +1,6 @@
 -- A rule keeps no flag and no algorithm that a key didn't have.
-use Rattle.policy_rules.proofs.Common.{Aes256, Attributes, Bool, NoCopy, NoEcb, NoExport, cond, eq-eqb, eqb, false, not, true, ◌&&◌}
-use Rattle.policy_rules.specs.declared.narrowing.Label.{Label}
-use Rattle.policy_rules.specs.declared.narrowing.Verdict.TheVariants.{Keep, Refuse}
-use Rattle.policy_rules.specs.Narrow.{names_ecb, narrowed, KeepsWithin}
-use Rattle.policy_rules.proofs.Usages.{includes-and_l}
-use Rattle.policy_rules.proofs.Copies.{IsWithin-refl}
+use Rattle.policy_rules.proofs.{Common.Aes256, Common.Attributes, Common.Bool, Common.NoCopy, Common.NoEcb, Common.NoExport, Common.cond, Common.eq-eqb, Common.eqb, Common.false, Common.not, Common.true, Common.◌&&◌, Usages.includes-and_l, Copies.IsWithin-refl}
+use Rattle.policy_rules.specs.{declared.narrowing.Label.Label, declared.narrowing.Verdict.TheVariants.Keep, declared.narrowing.Verdict.TheVariants.Refuse, Narrow.names_ecb, Narrow.narrowed, Narrow.KeepsWithin}
 
 kept_or_refused : (t : Bool) (a : Attributes) → KeepsWithin a (cond t Refuse (Keep a))
 kept_or_refused true a = tt

@@ -1,9 +1,7 @@
 -- Sets of flags, as numbers.
 use Rattle.policy_rules.proofs.Common.{Bool, ap, arith, both_ways, eq-eqb, eqb, eqb-true, false, not, not-false, not_from_true, refl, sym, true, true_from_ne_false, ℕ, ◌+◌, ◌∙◌, ◌≡◌}
-use Rattle.std.specs.Int.Bits.{bit_and, and_self, and_zero_r, or_add_and}
-use Rattle.std.specs.Int.RustNames.{bit_or}
-use Rattle.std.proofs.lemmas.Nat.{and_comm, and_assoc, and_or_self, and_or_apart}
-use Rattle.std.proofs.lemmas.Nat.Bits.{same_from_bits, bit_at_and, bit_at_or}
+use Rattle.std.specs.{Int.Bits.bit_and, Int.Bits.and_self, Int.Bits.and_zero_r, Int.Bits.or_add_and, Int.RustNames.bit_or}
+use Rattle.std.proofs.{lemmas.Nat.and_comm, lemmas.Nat.and_assoc, lemmas.Nat.and_or_self, lemmas.Nat.and_or_apart, lemmas.Nat.Bits.same_from_bits, lemmas.Nat.Bits.bit_at_and, lemmas.Nat.Bits.bit_at_or}
 use Rattle.key_attributes.specs.Checks.{implied_usage}
 
 -- a set's flags are in another

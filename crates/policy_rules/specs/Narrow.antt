@@ -1,14 +1,8 @@
 -- What an admission rule makes of the attributes of a new key.
 use Rattle.std.specs.Prelude.{ℕ, Bool, not, ◌&&◌, ◌||◌, ◌==◌, if◌then◌else◌, bit_and, List, [], ◌∷◌, Result, Ok, Err}
-use Rattle.psa_status.specs.declared.Status.{Status}
-use Rattle.psa_status.specs.declared.Status.TheVariants.{NotPermitted}
-use Rattle.key_attributes.specs.declared.Attributes.{Attributes}
-use Rattle.key_attributes.specs.declared.Policy.{Policy}
-use Rattle.policy_rules.specs.Policy.{IsWithin}
-use Rattle.policy_rules.specs.declared.narrowing.Label.{Label}
-use Rattle.policy_rules.specs.declared.narrowing.Label.TheVariants.{NoExport, NoCopy, NoEcb, Aes256}
-use Rattle.policy_rules.specs.declared.narrowing.Verdict.{Verdict}
-use Rattle.policy_rules.specs.declared.narrowing.Verdict.TheVariants.{Keep, Refuse}
+use Rattle.psa_status.specs.{declared.Status.Status, declared.Status.TheVariants.NotPermitted}
+use Rattle.key_attributes.specs.{declared.Attributes.Attributes, declared.Policy.Policy}
+use Rattle.policy_rules.specs.{Policy.IsWithin, declared.narrowing.Label.Label, declared.narrowing.Label.TheVariants.NoExport, declared.narrowing.Label.TheVariants.NoCopy, declared.narrowing.Label.TheVariants.NoEcb, declared.narrowing.Label.TheVariants.Aes256, declared.narrowing.Verdict.Verdict, declared.narrowing.Verdict.TheVariants.Keep, declared.narrowing.Verdict.TheVariants.Refuse}
 
 -- the attributes with these flags alone
 abbrev pub only_usage : Attributes → ℕ → Attributes

@@ -1,8 +1,6 @@
 -- What a policy permits (PSA Certified Crypto API 1.2, section 9.5), and the meet of two policies, which a copy of a key gets.
-use Rattle.std.specs.Prelude.{ℕ, Bool, false, not, ◌&&◌, ◌||◌, ◌==◌, nat_le, nat_lt, ◌≡◌, List, [], ◌∷◌, Option, Some, None, IsTrue, ◌↔◌, if◌then◌else◌, bit_and}
-use Rattle.std.specs.Option.{option_map, option_and_then}
-use Rattle.key_attributes.specs.declared.Policy.{Policy}
-use Rattle.key_attributes.specs.Checks.{implied_usage}
+use Rattle.std.specs.{Prelude.ℕ, Prelude.Bool, Prelude.false, Prelude.not, Prelude.◌&&◌, Prelude.◌||◌, Prelude.◌==◌, Prelude.nat_le, Prelude.nat_lt, Prelude.◌≡◌, Prelude.List, Prelude.[], Prelude.◌∷◌, Prelude.Option, Prelude.Some, Prelude.None, Prelude.IsTrue, Prelude.◌↔◌, Prelude.if◌then◌else◌, Prelude.bit_and, Option.option_map, Option.option_and_then}
+use Rattle.key_attributes.specs.{declared.Policy.Policy, Checks.implied_usage}
 use Rattle.alg_encoding.specs.Encoding.{is_concrete, is_wildcard, base_of, tag_length_of, minimum_of, is_same_algorithm, IsConcrete}
 
 -- a tag length that a minimum permits

@@ -1,6 +1,5 @@
 // What a policy permits, and the meet of two.
-ghost use Rattle.std.specs.Prelude.{◌≡◌, ◌↔◌, IfSome, IsTrue, ℕ};
-ghost use Rattle.std.specs.Option.{option_map};
+ghost use Rattle.std.specs.{Prelude.◌≡◌, Prelude.◌↔◌, Prelude.IfSome, Prelude.IsTrue, Prelude.ℕ, Option.option_map};
 ghost use Rattle.alg_encoding.specs.Encoding.{IsConcrete, base_of, minimum_of};
 ghost use Rattle.key_attributes.specs.declared.Policy.{Policy};
 ghost use Rattle.policy_rules.specs.Policy.{HasOneAlgorithm, IsWithin, MayUseBoth, PermitsBoth, allows, longer_of, may_use, meet_algorithm, meet_of, permits_algorithm, reaches};

@@ -21,7 +21,8 @@ is_store image (inl new) none = none.some new
 is_store image (inr opens) none = none.other opens.store
 
 is_sound : (image : List ℕ) (cell : ℕ) → HasStore (Some image) → IsFirstDamaged image cell → ⊥
-is_sound image cell (inl new) damaged = absurd (let size = damaged.store.size in omega (arith, new))
+is_sound [] cell (inl new) damaged = absurd (let size = damaged.store.size.0 in omega (arith, size))
+is_sound (byte ∷ rest) cell (inl new) damaged = absurd cc
 is_sound image cell (inr opens) damaged = opens.sound cell damaged.within damaged.here
 
 -- A SCRIPT THAT READS HAS NO FAULT

@@ -1,23 +1,14 @@
 -- What a command runs, and what is known of its end.
-use Rattle.std.specs.Prelude.{ℕ, ◌≡◌, ◌⊎◌, List, [], flat_map, replicate, length, IfSome, IsOk, IsSomeAnd, Ok, Option}
-use Rattle.std.specs.Io.KnownBytes.{Appends}
+use Rattle.std.specs.{Prelude.ℕ, Prelude.◌≡◌, Prelude.◌⊎◌, Prelude.List, Prelude.[], Prelude.flat_map, Prelude.replicate, Prelude.length, Prelude.IfSome, Prelude.IsOk, Prelude.IsSomeAnd, Prelude.Ok, Prelude.Option, Io.KnownBytes.Appends}
 use Rattle.psa_status.specs.Causes.{Rose}
 use Rattle.policy_rules.specs.declared.narrowing.Label.{Label}
 use Rattle.admission.specs.Apply.{picked}
 use Rattle.key_cells.specs.Prelude.{Opens}
-use Rattle.script_lang.specs.declared.script.ScriptLine.{ScriptLine}
-use Rattle.script_lang.specs.Prelude.{ReplyLine, reply_text, script_of}
-use Rattle.line_generator.specs.Generator.{generator_lines}
-use Rattle.line_generator.specs.Summary.{summary_of}
-use Rattle.command_words.specs.declared.command.Command.{Command}
-use Rattle.command_words.specs.declared.command.RunOptions.{RunOptions}
-use Rattle.command_words.specs.declared.command.Command.TheVariants.{Run, Generate}
-use Rattle.session_host.specs.declared.lines.Unanswered.{Unanswered}
-use Rattle.session_host.specs.Bounds.{ArePlain}
-use Rattle.session_host.specs.Runs.{AreAnswered, IsUnanswered}
-use Rattle.psa_command.specs.declared.exit.Exit.{Exit}
-use Rattle.psa_command.specs.declared.exit.Exit.TheVariants.{Done, Usage, Script, ReadFault, WriteFault, Memory}
-use Rattle.psa_command.specs.Ends.{TakesPart, exit_unanswered}
+use Rattle.script_lang.specs.{declared.script.ScriptLine.ScriptLine, Prelude.ReplyLine, Prelude.reply_text, Prelude.script_of}
+use Rattle.line_generator.specs.{Generator.generator_lines, Summary.summary_of}
+use Rattle.command_words.specs.{declared.command.Command.Command, declared.command.RunOptions.RunOptions, declared.command.Command.TheVariants.Run, declared.command.Command.TheVariants.Generate}
+use Rattle.session_host.specs.{declared.lines.Unanswered.Unanswered, Bounds.ArePlain, Runs.AreAnswered, Runs.IsUnanswered}
+use Rattle.psa_command.specs.{declared.exit.Exit.Exit, declared.exit.Exit.TheVariants.Done, declared.exit.Exit.TheVariants.Usage, declared.exit.Exit.TheVariants.Script, declared.exit.Exit.TheVariants.ReadFault, declared.exit.Exit.TheVariants.WriteFault, declared.exit.Exit.TheVariants.Memory, Ends.TakesPart, Ends.exit_unanswered}
 use Rattle.disk_face.specs.declared.Disk as Disk
 use Rattle.driver_dispatch.specs.declared.devices.Devices as Devices
 use Rattle.admission.specs.declared.rules.Admission as Admission

@@ -1,12 +1,9 @@
 -- How a run of a command may end.
-use Rattle.std.specs.Prelude.{ℕ, List, take}
-use Rattle.std.specs.declared.option.Option.{Option}
-use Rattle.std.specs.Io.KnownBytes.{Appends}
+use Rattle.std.specs.{Prelude.ℕ, Prelude.List, Prelude.take, declared.option.Option.Option, Io.KnownBytes.Appends}
 use Rattle.key_cells.specs.declared.reading.OpenFault.{OpenFault}
 use Rattle.key_cells.specs.declared.reading.OpenFault.TheVariants as opening
 use Rattle.script_lang.specs.declared.faults.ScriptFault.TheVariants as faults
-use Rattle.session_host.specs.declared.lines.Unanswered.{Unanswered}
-use Rattle.session_host.specs.declared.lines.Unanswered.TheVariants.{NotOpened}
+use Rattle.session_host.specs.{declared.lines.Unanswered.Unanswered, declared.lines.Unanswered.TheVariants.NotOpened}
 use Rattle.session_host.specs.declared.lines.Unanswered.TheVariants as unanswered
 use Rattle.psa_command.specs.declared.exit.Exit.{Exit}
 use Rattle.psa_command.specs.declared.exit.Exit.TheVariants.{Done, Usage, Script, ReadFault, WriteFault, NotAStore, DamagedCell, DiskFault, Memory}

@@ -1,6 +1,5 @@
 //! The top call.
-ghost use Rattle.std.specs.Prelude.{◌≡◌, ◌≤◌, ◌+◌, ◌↔◌, ◌⊎◌, List, [], ℕ, IfSome, IsSomeAnd, None, Some, Err, Option, map, length};
-ghost use Rattle.std.specs.Io.KnownBytes.{IsAtEnd, Consumes};
+ghost use Rattle.std.specs.{Prelude.◌≡◌, Prelude.◌≤◌, Prelude.◌+◌, Prelude.◌↔◌, Prelude.◌⊎◌, Prelude.List, Prelude.[], Prelude.ℕ, Prelude.IfSome, Prelude.IsSomeAnd, Prelude.None, Prelude.Some, Prelude.Err, Prelude.Option, Prelude.map, Prelude.length, Io.KnownBytes.IsAtEnd, Io.KnownBytes.Consumes};
 ghost use Rattle.psa_status.specs.Causes.{Rose};
 ghost use Rattle.policy_rules.specs.declared.narrowing.Label.{Label};
 ghost use Rattle.admission.specs.Apply.{picked};
@@ -8,15 +7,13 @@ ghost use Rattle.disk_face.specs.Disk.{NoNewImage};
 ghost use Rattle.key_cells.specs.Prelude.{IsFirstDamaged, IsNoStore};
 ghost use Rattle.driver_dispatch.specs.Calls.{Lacks};
 ghost use Rattle.outside_io.specs.Causes.{text_limit, TellsAsBefore};
-ghost use Rattle.script_lang.specs.declared.faults.ScriptFault.{ScriptFault};
+ghost use Rattle.script_lang.specs.{declared.faults.ScriptFault.ScriptFault, Prelude.script_of};
 ghost use Rattle.script_lang.specs.declared.faults.ScriptFault.TheVariants as faults;
-ghost use Rattle.script_lang.specs.Prelude.{script_of};
 ghost use Rattle.command_words.specs.Words.{command_of};
 ghost use Rattle.command_words.specs.declared.command.Command as command;
 ghost use Rattle.command_words.specs.declared.command.Command.TheVariants as commands;
 ghost use Rattle.command_words.specs.declared.command.RunOptions as options;
-ghost use Rattle.psa_command.specs.Commands.{EndsBy, HasStore, IsDonePlainly, IsReadable};
-ghost use Rattle.psa_command.specs.Ends.{IsBeforeOpening, IsOfImage, IsQuiet, IsReadToEnd};
+ghost use Rattle.psa_command.specs.{Commands.EndsBy, Commands.HasStore, Commands.IsDonePlainly, Commands.IsReadable, Ends.IsBeforeOpening, Ends.IsOfImage, Ends.IsQuiet, Ends.IsReadToEnd};
 
 use crate::exit::{Ended, Exit};
 use crate::reading::read_calls;

@@ -1,11 +1,9 @@
 //! The calls of a script.
-ghost use Rattle.std.specs.Prelude.{◌≡◌, ◌≤◌, ◌+◌, List, ℕ, IfSome, IfOk, IfErr, IsErrOf, MatchResult, Ok, Err, All, length};
-ghost use Rattle.std.specs.Io.KnownBytes.{IsAtEnd, Consumes};
+ghost use Rattle.std.specs.{Prelude.◌≡◌, Prelude.◌≤◌, Prelude.◌+◌, Prelude.List, Prelude.ℕ, Prelude.IfSome, Prelude.IfOk, Prelude.IfErr, Prelude.IsErrOf, Prelude.MatchResult, Prelude.Ok, Prelude.Err, Prelude.All, Prelude.length, Io.KnownBytes.IsAtEnd, Io.KnownBytes.Consumes};
 ghost use Rattle.psa_status.specs.Causes.{Rose};
 ghost use Rattle.outside_io.specs.Causes.{text_limit, TellsAsBefore};
-ghost use Rattle.script_lang.specs.declared.faults.ScriptFault.{ScriptFault};
+ghost use Rattle.script_lang.specs.{declared.faults.ScriptFault.ScriptFault, Prelude.script_of, Prelude.IsOfSession};
 ghost use Rattle.script_lang.specs.declared.faults.ScriptFault.TheVariants as faults;
-ghost use Rattle.script_lang.specs.Prelude.{script_of, IsOfSession};
 ghost use Rattle.psa_command.specs.Ends.{IsOfReading, IsReadToEnd};
 
 use crate::exit::Exit;

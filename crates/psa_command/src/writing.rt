@@ -2,8 +2,7 @@
 ghost use Rattle.std.specs.Prelude.{◌≡◌, ◌≤◌, List, flat_map, length};
 ghost use Rattle.psa_status.specs.Causes.{Rose};
 ghost use Rattle.outside_io.specs.Causes.{TellsAsBefore};
-ghost use Rattle.script_lang.specs.Prelude.{AreAllKept, ReplyLine};
-ghost use Rattle.script_lang.specs.declared.replies.ReplyForm.TheVariants.{Unranked};
+ghost use Rattle.script_lang.specs.{Prelude.AreAllKept, Prelude.ReplyLine, declared.replies.ReplyForm.TheVariants.Unranked};
 ghost use Rattle.line_generator.specs.Summary.{summary_of};
 ghost use Rattle.psa_command.specs.Ends.{IsQuiet, IsWritten};
 

@@ -1,6 +1,5 @@
 //! Opening the file of a store: a regular file, which one run has at a time.
-ghost use Rattle.std.specs.Prelude.{◌↔◌, IsOk, IfErr, map};
-ghost use Rattle.std.specs.Fs.{file_type, IsFile};
+ghost use Rattle.std.specs.{Prelude.◌↔◌, Prelude.IsOk, Prelude.IfErr, Prelude.map, Fs.file_type, Fs.IsFile};
 ghost use Rattle.command_words.specs.Words.{command_of};
 ghost use Rattle.psa_host.specs.Program.{EndsUnopened};
 

@@ -1,8 +1,7 @@
 //! A command over a store's file, with the program's rules and its secure element. Boxes are made where they are handed down.
 ghost use Rattle.std.specs.Prelude.{◌≡◌, ℕ, ◌∷◌, [], Some};
 ghost use Rattle.policy_rules.specs.declared.narrowing.Label.TheVariants as label;
-ghost use Rattle.driver_dispatch.specs.Calls.{Lacks};
-ghost use Rattle.driver_dispatch.specs.Held.{no_keys};
+ghost use Rattle.driver_dispatch.specs.{Calls.Lacks, Held.no_keys};
 
 use crate::End;
 use crate::opening::store_file;

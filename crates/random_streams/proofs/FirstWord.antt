@@ -1,6 +1,5 @@
 -- A new stream stands at its first word.
-use Rattle.random_streams.proofs.Common.{ChaCha, IsSoundGenerator, List, ap, ap₂, arith, key_of, length, of_seed, stream_of, sym, ℕ, ◌∙◌, ◌≡◌}
-use Rattle.random_streams.proofs.SeedWords.{AreBytes, seed_of-key_of}
+use Rattle.random_streams.proofs.{Common.ChaCha, Common.IsSoundGenerator, Common.List, Common.ap, Common.ap₂, Common.arith, Common.key_of, Common.length, Common.of_seed, Common.stream_of, Common.sym, Common.ℕ, Common.◌∙◌, Common.◌≡◌, SeedWords.AreBytes, SeedWords.seed_of-key_of}
 
 abbrev pub first_of : List ℕ → ℕ → ChaCha
 first_of seed caller = record { key = key_of seed; stream = caller; word_pos = 0 }

@@ -1,9 +1,7 @@
 -- The words of a seed give its bytes back.
 use Rattle.random_streams.proofs.Common.{List, [], ap₂, arith, get_or, key_of, length, map, refl, seed_of, slice_index, suc, sym, to_le_bytes, u32_at, w32, zero, ℕ, ◌*◌, ◌++◌, ◌+◌, ◌<◌, ◌∙◌, ◌∷◌, ◌≡◌}
 use Rattle.std.specs.List.{range_with_len}
-use Rattle.std.proofs.lemmas.Nat.{le_bytes_4}
-use Rattle.std.proofs.lemmas.List.{ext_get_or}
-use Rattle.std.proofs.lemmas.List.FromFn.{length-map-range_with_len, get_or-map-range_with_len}
+use Rattle.std.proofs.{lemmas.Nat.le_bytes_4, lemmas.List.ext_get_or, lemmas.List.FromFn.length-map-range_with_len, lemmas.List.FromFn.get_or-map-range_with_len}
 
 abbrev pub AreBytes : List ℕ → Type 0
 AreBytes bs = (i : ℕ) → slice_index bs i < 256

@@ -1,8 +1,7 @@
 -- The random words of a caller: the words of ChaCha20 (RFC 8439) under the seed as its key, with a
 -- 64-bit block counter and the caller's number as the 64-bit stream number, as rand_chacha states
 -- them. A place is the number of words before it.
-use Rattle.std.specs.Prelude.{ℕ, zero, suc, ◌+◌, ◌/◌, ◌^◌, List, [], ◌++◌, take}
-use Rattle.std.specs.Int.{w32, to_le_bytes}
+use Rattle.std.specs.{Prelude.ℕ, Prelude.zero, Prelude.suc, Prelude.◌+◌, Prelude.◌/◌, Prelude.◌^◌, Prelude.List, Prelude.[], Prelude.◌++◌, Prelude.take, Int.w32, Int.to_le_bytes}
 use Rattle.rand_chacha.specs.ChaCha.{word_at, key_of}
 
 -- the word at place n of a stream; ChaCha20 has ten double rounds

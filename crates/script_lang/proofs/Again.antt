@@ -2,10 +2,7 @@
 use Rattle.std.proofs.Common.{Err, List, None, Ok, Option, Result, Some, [], ap, append_assoc, arith, false, inl, inr, le-ltb, length, lt-ltb, not, ok_or, refl, subst, suc, sym, true, ℕ, ◌++◌, ◌+◌, ◌∙◌, ◌∷◌, ◌≡◌, ◌⊎◌}
 use Rattle.script_lang.proofs.Common.{append-nil, AreBadAfter, AreBadFields, AreBadFixed, AreBadWords, AreFields, AreFixed, AreSteps, BadKey, BadLine, cut_of, demand, false_from_ne_true, Field, field_named, field_value, Fields, FieldValue, Fixed, has_field, has_required, is_allowed, is_name, IsBadField, IsBadFixed, IsBadValue, IsFault, IsField, IsFixed, IsKeyWord, IsLine, IsScript, IsStep, key_at, KeyWord, Kind, Line, line_words, lines_at, MissingField, no_words, nothing_read, parts_at, Places, Read, read_field, read_fields, read_fixed, Reason, RepeatedField, row_named, script_of, ScriptFault, ScriptLine, session_of, Shape, text_lines, UnknownField, with_word, words_at}
 use Rattle.script_lang.specs.Steps.{◌>>=◌}
-use Rattle.script_lang.proofs.Ends.{Ends, fails, reads}
-use Rattle.script_lang.proofs.Meant.{field_joined, named_read, row_read}
-use Rattle.script_lang.proofs.Named.{name_cut, named_again}
-use Rattle.script_lang.proofs.Texts.{handle_again, handle_ends, key_again, key_ends, name_again, name_means, session_again, session_means, value_again, value_ends}
+use Rattle.script_lang.proofs.{Ends.Ends, Ends.fails, Ends.reads, Meant.field_joined, Meant.named_read, Meant.row_read, Named.name_cut, Named.named_again, Texts.handle_again, Texts.handle_ends, Texts.key_again, Texts.key_ends, Texts.name_again, Texts.name_means, Texts.session_again, Texts.session_means, Texts.value_again, Texts.value_ends}
 use Rattle.script_lang.specs.declared.faults.ScriptFault.TheVariants as faults
 use Rattle.script_lang.specs.declared.commands.Kind.TheVariants as kind
 

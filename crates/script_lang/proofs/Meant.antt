@@ -3,9 +3,7 @@
 use Rattle.std.proofs.Common.{Bool, Err, List, None, Ok, Option, Result, Some, [], ap, append_assoc, ap₂, arith, cond, false, find, inl, inr, length, ltb-false, ltb-true, nat_lt, option_map, refl, subst, suc, sym, true, ℕ, ◌++◌, ◌+◌, ◌==◌, ◌∙◌, ◌∷◌, ◌≡◌, ◌⊎◌}
 use Rattle.script_lang.proofs.Common.{all_fields, append-nil, AreBadAfter, AreBadFields, AreBadFixed, AreBadWords, AreFields, AreFixed, AreSteps, BadLine, BadName, BadSession, bytes_eq, bytes_eq-Decides, call_of, cut_of, Field, field_name, field_named, Fields, FieldValue, Fixed, has_field, has_required, is_allowed, is_name, IsBadField, IsBadFixed, IsFault, IsField, IsFixed, IsRow, IsScript, IsStep, Kind, line_words, lines_at, MissingField, no_words, none-some, nothing_read, or_bad_line, parts_at, Places, Read, read_field, read_fields, read_fixed, Reason, RepeatedField, row_named, rows, same_Some, script_of, ScriptCall, ScriptFault, ScriptLine, session_of, Shape, text_lines, TooLong, TooManyLines, UnknownCommand, UnknownField, with_call, with_word, words_at}
 use Rattle.std.proofs.lemmas.Bool.{both_ways, eqb-true}
-use Rattle.script_lang.proofs.Ends.{Ends, asked, demanded, denied, fails, found, reads, step, weaker}
-use Rattle.script_lang.proofs.Named.{name_cut, named_again}
-use Rattle.script_lang.proofs.Texts.{handle_ends, key_ends, name_again, name_means, session_again, session_means, value_ends}
+use Rattle.script_lang.proofs.{Ends.Ends, Ends.asked, Ends.demanded, Ends.denied, Ends.fails, Ends.found, Ends.reads, Ends.step, Ends.weaker, Named.name_cut, Named.named_again, Texts.handle_ends, Texts.key_ends, Texts.name_again, Texts.name_means, Texts.session_again, Texts.session_means, Texts.value_ends}
 use Rattle.script_lang.specs.declared.commands.Kind.TheVariants as kind
 
 -- what find found is as the test says

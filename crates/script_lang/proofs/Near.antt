@@ -1,7 +1,5 @@
 -- A search that looks at the front of a text byte by byte, and then at the rest.
-use Rattle.std.proofs.Common.{Bool, List, ap, arith, drop, inl, inr, length, slice_index, subst, sym, take, ℕ, ◌+◌, ◌-◌, ◌<◌, ◌∙◌, ◌≡◌, ◌≤◌, ◌⊎◌}
-use Rattle.std.proofs.lemmas.Bool.{cases_lt}
-use Rattle.std.proofs.lemmas.List.{get_or-drop, length-drop}
+use Rattle.std.proofs.{Common.Bool, Common.List, Common.ap, Common.arith, Common.drop, Common.inl, Common.inr, Common.length, Common.slice_index, Common.subst, Common.sym, Common.take, Common.ℕ, Common.◌+◌, Common.◌-◌, Common.◌<◌, Common.◌∙◌, Common.◌≡◌, Common.◌≤◌, Common.◌⊎◌, lemmas.Bool.cases_lt, lemmas.List.get_or-drop, lemmas.List.length-drop}
 use Rattle.script_lang.proofs.Common.{take_all}
 use Rattle.memchr.specs.Find.{NoneBefore, Nowhere, Passes}
 

@@ -1,8 +1,7 @@
 -- What is known of the sessions, from line to line.
 use Rattle.std.proofs.Common.{All, Bool, IfSome, List, None, Option, Some, [], ap, arith, cond, eqb-true, false, get_or, length, length-append, refl, slice_get, slice_set, subst, suc, sym, true, zero, ℕ, ◌++◌, ◌+◌, ◌<◌, ◌==◌, ◌∙◌, ◌∷◌, ◌≡◌, ◌≢◌, ◌≤◌}
 use Rattle.script_lang.proofs.Common.{AreCounted, count_by-le-length, eqb-false, given_place, IfSome_then, IsNew, length-filter, lines_of, nothing_read, Places, places_in, places_of, read_of, ScriptCall, ScriptLine, slice_get_read, with_call}
-use Rattle.std.proofs.Math.ListN.{length-set}
-use Rattle.std.proofs.lemmas.List.Elements.{filter-append}
+use Rattle.std.proofs.{Math.ListN.length-set, lemmas.List.Elements.filter-append}
 use Rattle.script_lang.specs.declared.sessions.SessionNames.{SessionNames}
 
 pointwise : {A B : Type 0} (f g : A → B) → ((x : A) → f x ≡ g x) → f ≡ g

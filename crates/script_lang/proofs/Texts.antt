@@ -1,14 +1,9 @@
 -- Numbers, sessions, names, keys and values: what is read of a text is what the grammar says of it.
 use Rattle.std.proofs.Common.{Bool, Err, List, None, Ok, Option, Result, Some, inl, inr, le-ltb, [], ap, arith, cond, eq-eqb, eqb-true, false, get_or, le-leb, leb-true, length, lt-ltb, ltb-false, ltb-true, nat_le, nat_lt, ne_eqb, ok_or, option_and_then, option_map, refl, subst, sym, true, ℕ, ◌&&◌, ◌*◌, ◌+◌, ◌-◌, ◌<◌, ◌==◌, ◌^◌, ◌||◌, ◌∙◌, ◌∷◌, ◌≡◌, ◌≤◌}
 use Rattle.script_lang.proofs.Common.{AllPass-from_list_all, and_from, and_parts, BadHandle, BadKey, BadValue, begins_with, both_ways, BytesForm, cond-true, cond_some, decimal, decode_of, digit_in, eqb-false, Field, field_value, FieldValue, Form, form_of, form_value, from_least, Given, handle_at, is_letter, is_name, is_name_byte, IsBadFixed, IsForm, IsKeyWord, IsLetter, IsName, IsNameByte, IsNumber, IsOneTo, key_at, KeyWord, Line, list_all-from_AllPass, LongForm, nat_tests, none-some, number, number_from, option_and_then_some, or_parts, Places, same_Some, session_of, ShortForm, UnknownName, WordForm}
-use Rattle.std.specs.Bool.{Decides}
-use Rattle.std.specs.Result.{result_ok}
-use Rattle.std.specs.Char.{digit_value}
-use Rattle.std.specs.Str.Parse.{AllDigits, digits_value, digits_value_after}
-use Rattle.std.proofs.lemmas.Fmt.{decimal_is_IsNumeral, length-decimal-le, first_decimal, decimal-digits_value, decimal_digit}
-use Rattle.std.proofs.lemmas.Str.Parse.{IsNumeralModel}
-use Rattle.script_lang.proofs.Digits.{if_below, number_is, found}
-use Rattle.script_lang.proofs.Ends.{Ends, asked, fails, reads}
+use Rattle.std.specs.{Bool.Decides, Result.result_ok, Char.digit_value, Str.Parse.AllDigits, Str.Parse.digits_value, Str.Parse.digits_value_after}
+use Rattle.std.proofs.{lemmas.Fmt.decimal_is_IsNumeral, lemmas.Fmt.length-decimal-le, lemmas.Fmt.first_decimal, lemmas.Fmt.decimal-digits_value, lemmas.Fmt.decimal_digit, lemmas.Str.Parse.IsNumeralModel}
+use Rattle.script_lang.proofs.{Digits.if_below, Digits.number_is, Digits.found, Ends.Ends, Ends.asked, Ends.fails, Ends.reads}
 use Rattle.script_lang.specs.declared.commands.Kind.TheVariants as kind
 use Rattle.script_lang.specs.declared.fields.FieldValue.TheVariants.{Short, Word, Long, Bytes}
 

@@ -1,31 +1,20 @@
 -- The commands: how each is written, a row each, and the call that its line makes.
-use Rattle.std.specs.Prelude.{ℕ, ◌≡◌, true, false, List, [], ◌∷◌, Some, find, slice_index, codes, Option}
-use Rattle.std.specs.Str.{bytes_eq}
+use Rattle.std.specs.{Prelude.ℕ, Prelude.◌≡◌, Prelude.true, Prelude.false, Prelude.List, Prelude.[], Prelude.◌∷◌, Prelude.Some, Prelude.find, Prelude.slice_index, Prelude.codes, Prelude.Option, Str.bytes_eq}
 use Rattle.store_model.specs.Call as store
 use Rattle.store_model.specs.HandleCalls as operation
 use Rattle.store_model.specs.Prelude.{Request, OnStore, OnHandle, HashUpdate, HashFinish, HashVerify, MacUpdate, MacSignFinish, MacVerifyFinish, CipherGenerateIv, CipherSetIv, CipherUpdate, CipherFinish, AeadGenerateNonce, AeadSetNonce, AeadSetLengths, AeadUpdateAd, AeadUpdate, AeadFinish, AeadVerify, GetCapacity, SetCapacity, InputBytes, InputInteger, OutputBytes, VerifyBytes}
-use Rattle.script_lang.specs.Shapes.{Shape, row}
-use Rattle.script_lang.specs.Fields.{Fields, alg_at, attributes_at, bytes_at, data_at, long_at, room_at, short_at}
-use Rattle.script_lang.specs.declared.store_commands.KeyCommand.{KeyCommand}
+use Rattle.script_lang.specs.{Shapes.Shape, Shapes.row, Fields.Fields, Fields.alg_at, Fields.attributes_at, Fields.bytes_at, Fields.data_at, Fields.long_at, Fields.room_at, Fields.short_at, declared.store_commands.KeyCommand.KeyCommand, declared.store_commands.SinglePartCommand.SinglePartCommand, declared.operation_commands.HashCommand.HashCommand, declared.commands.ScriptCommand.ScriptCommand}
 use Rattle.script_lang.specs.declared.store_commands.KeyCommand.TheVariants as key
-use Rattle.script_lang.specs.declared.store_commands.SinglePartCommand.{SinglePartCommand}
 use Rattle.script_lang.specs.declared.store_commands.SinglePartCommand.TheVariants as single
-use Rattle.script_lang.specs.declared.operation_commands.HashCommand.{HashCommand}
 use Rattle.script_lang.specs.declared.operation_commands.HashCommand.TheVariants as hash
-use Rattle.script_lang.specs.declared.operation_commands.MacCommand.{MacCommand}
+use Rattle.script_lang.specs.{declared.operation_commands.MacCommand.MacCommand, declared.operation_commands.CipherCommand.CipherCommand, declared.operation_commands.AeadCommand.AeadCommand, declared.operation_commands.DerivationCommand.DerivationCommand, declared.script.KeyWord.KeyWord, declared.script.KeyWord.TheVariants.Given, declared.script.KeyWord.TheVariants.Line}
 use Rattle.script_lang.specs.declared.operation_commands.MacCommand.TheVariants as mac
-use Rattle.script_lang.specs.declared.operation_commands.CipherCommand.{CipherCommand}
 use Rattle.script_lang.specs.declared.operation_commands.CipherCommand.TheVariants as cipher
-use Rattle.script_lang.specs.declared.operation_commands.AeadCommand.{AeadCommand}
 use Rattle.script_lang.specs.declared.operation_commands.AeadCommand.TheVariants as aead
-use Rattle.script_lang.specs.declared.operation_commands.DerivationCommand.{DerivationCommand}
 use Rattle.script_lang.specs.declared.operation_commands.DerivationCommand.TheVariants as derivation
-use Rattle.script_lang.specs.declared.commands.ScriptCommand.{ScriptCommand}
 use Rattle.script_lang.specs.declared.commands.ScriptCommand.TheVariants as command
 use Rattle.script_lang.specs.declared.commands.Kind.TheVariants as kind
 use Rattle.script_lang.specs.declared.fields.Field.TheVariants as field
-use Rattle.script_lang.specs.declared.script.KeyWord.{KeyWord}
-use Rattle.script_lang.specs.declared.script.KeyWord.TheVariants.{Given, Line}
 use Rattle.script_lang.specs.declared.script.ScriptCall.{ScriptCall}
 
 unfoldable pub rows : List Shape

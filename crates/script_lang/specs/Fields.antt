@@ -1,19 +1,10 @@
 -- The fields of a line.
-use Rattle.script_lang.specs.declared.faults.Reason.{Reason}
-use Rattle.std.specs.Prelude.{ℕ, ◌^◌, Bool, not, nat_lt, min, ◌==◌, List, [], ◌∷◌, ◌++◌, length, if◌then◌else◌, ◌||◌, Option, Some, None, option_map, ok_or, find, Ok, codes, Result}
-use Rattle.std.specs.List.{list_any, list_all}
-use Rattle.std.specs.Result.{result_ok}
-use Rattle.std.specs.Str.{bytes_eq}
+use Rattle.script_lang.specs.{declared.faults.Reason.Reason, Numbers.number, Numbers.from_least, Pieces.cut_of, Steps.◌>>=◌, Steps.demand, Shapes.Shape, declared.faults.Reason.TheVariants.UnknownField, declared.faults.Reason.TheVariants.RepeatedField, declared.faults.Reason.TheVariants.BadValue, declared.fields.Field.Field, declared.fields.FieldValue.FieldValue}
+use Rattle.std.specs.{Prelude.ℕ, Prelude.◌^◌, Prelude.Bool, Prelude.not, Prelude.nat_lt, Prelude.min, Prelude.◌==◌, Prelude.List, Prelude.[], Prelude.◌∷◌, Prelude.◌++◌, Prelude.length, Prelude.if◌then◌else◌, Prelude.◌||◌, Prelude.Option, Prelude.Some, Prelude.None, Prelude.option_map, Prelude.ok_or, Prelude.find, Prelude.Ok, Prelude.codes, Prelude.Result, List.list_any, List.list_all}
+use Rattle.std.specs.{Result.result_ok, Str.bytes_eq}
 use Rattle.key_attributes.specs.declared.Attributes.{Attributes}
 use Rattle.hex.specs.Hex.{decode_of}
-use Rattle.script_lang.specs.Numbers.{number, from_least}
-use Rattle.script_lang.specs.Pieces.{cut_of}
-use Rattle.script_lang.specs.Steps.{◌>>=◌, demand}
-use Rattle.script_lang.specs.Shapes.{Shape}
-use Rattle.script_lang.specs.declared.faults.Reason.TheVariants.{UnknownField, RepeatedField, BadValue}
-use Rattle.script_lang.specs.declared.fields.Field.{Field}
 use Rattle.script_lang.specs.declared.fields.Field.TheVariants as field
-use Rattle.script_lang.specs.declared.fields.FieldValue.{FieldValue}
 use Rattle.script_lang.specs.declared.fields.FieldValue.TheVariants.{Short, Word, Long, Bytes}
 
 -- What the text of a field is: a number of at most so many digits of a base, from the least and below a limit

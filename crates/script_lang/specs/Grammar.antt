@@ -1,22 +1,10 @@
 -- The grammar of scripts: which calls a text says, and why a text says none. Numbers are stated by their digits'
 -- values (std's) or their texts, and bytes by what hex decodes; what this crate's readers do isn't in it.
-use Rattle.std.specs.Prelude.{ℕ, ◌≡◌, ◌≤◌, ◌<◌, ◌^◌, ◌⊎◌, true, false, List, [], ◌∷◌, ◌++◌, length, All, Some, Ok}
-use Rattle.std.specs.Fmt.{decimal}
-use Rattle.std.specs.Str.Parse.{IsNumeral, digits_value}
+use Rattle.std.specs.{Prelude.ℕ, Prelude.◌≡◌, Prelude.◌≤◌, Prelude.◌<◌, Prelude.◌^◌, Prelude.◌⊎◌, Prelude.true, Prelude.false, Prelude.List, Prelude.[], Prelude.◌∷◌, Prelude.◌++◌, Prelude.length, Prelude.All, Prelude.Some, Prelude.Ok, Fmt.decimal, Str.Parse.IsNumeral, Str.Parse.digits_value}
 use Rattle.hex.specs.Hex.{decode_of}
-use Rattle.script_lang.specs.Pieces.{line_words, text_lines}
-use Rattle.script_lang.specs.Shapes.{Shape}
-use Rattle.script_lang.specs.Commands.{IsRow}
-use Rattle.script_lang.specs.Fields.{Form, ShortForm, WordForm, LongForm, BytesForm, form_of, Fields, field_name, is_allowed, has_field, has_required}
-use Rattle.script_lang.specs.Lines.{Places, Read, nothing_read, no_words, call_of, with_call}
-use Rattle.script_lang.specs.declared.fields.Field.{Field}
-use Rattle.script_lang.specs.declared.fields.FieldValue.{FieldValue}
-use Rattle.script_lang.specs.declared.fields.FieldValue.TheVariants.{Short, Word, Long, Bytes}
-use Rattle.script_lang.specs.declared.fixed.Fixed.{Fixed}
-use Rattle.script_lang.specs.declared.script.KeyWord.{KeyWord}
-use Rattle.script_lang.specs.declared.script.KeyWord.TheVariants.{Given, Line}
-use Rattle.script_lang.specs.declared.script.ScriptLine.{ScriptLine}
-use Rattle.script_lang.specs.declared.commands.Kind.{Kind}
+use Rattle.script_lang.specs.{Pieces.line_words, Pieces.text_lines, Shapes.Shape, Commands.IsRow, Fields.Form, Fields.ShortForm, Fields.WordForm, Fields.LongForm, Fields.BytesForm, Fields.form_of, Fields.Fields, Fields.field_name, Fields.is_allowed, Fields.has_field, Fields.has_required, Lines.Places, Lines.Read, Lines.nothing_read, Lines.no_words, Lines.call_of, Lines.with_call}
+use Rattle.script_lang.specs.{declared.fields.Field.Field, declared.fields.FieldValue.FieldValue, declared.fields.FieldValue.TheVariants.Short, declared.fields.FieldValue.TheVariants.Word, declared.fields.FieldValue.TheVariants.Long, declared.fields.FieldValue.TheVariants.Bytes, declared.fixed.Fixed.Fixed, declared.script.KeyWord.KeyWord, declared.script.ScriptLine.ScriptLine}
+use Rattle.script_lang.specs.{declared.script.KeyWord.TheVariants.Given, declared.script.KeyWord.TheVariants.Line, declared.commands.Kind.Kind}
 use Rattle.script_lang.specs.declared.commands.Kind.TheVariants as kind
 
 -- one to so many digits of a base, of either case, which write a number below a limit

@@ -1,26 +1,11 @@
 -- The lines of a script, read from left to right.
-use Rattle.script_lang.specs.declared.commands.Kind.{Kind}
-use Rattle.script_lang.specs.declared.script.KeyWord.{KeyWord}
+use Rattle.script_lang.specs.{declared.commands.Kind.Kind, declared.script.KeyWord.KeyWord, Numbers.number, Numbers.from_least, Pieces.begins_with, Pieces.line_words, Pieces.text_lines, Shapes.Shape, Commands.row_named, Fields.Fields, Fields.read_fields, Fields.has_required, Steps.◌>>=◌, Steps.demand, declared.faults.LineError.LineError, declared.faults.Reason.Reason, declared.fixed.Fixed.Fixed}
 use Rattle.std.specs.Prelude.{◌≡◌, ◌≤◌, ℕ, ◌+◌, ◌-◌, ◌^◌, Bool, false, ◌||◌, ◌&&◌, nat_lt, nat_le, ◌==◌, List, [], ◌∷◌, ◌++◌, length, drop, slice_get, filter, if◌then◌else◌, Option, Some, None, option_map, ok_or, Result, Ok, Err}
-use Rattle.std.specs.List.{list_all}
-use Rattle.std.specs.Str.{bytes_eq}
-use Rattle.script_lang.specs.Numbers.{number, from_least}
-use Rattle.script_lang.specs.Pieces.{begins_with, line_words, text_lines}
-use Rattle.script_lang.specs.Shapes.{Shape}
-use Rattle.script_lang.specs.Commands.{row_named}
-use Rattle.script_lang.specs.Fields.{Fields, read_fields, has_required}
-use Rattle.script_lang.specs.Steps.{◌>>=◌, demand}
-use Rattle.script_lang.specs.declared.faults.LineError.{LineError}
+use Rattle.std.specs.{List.list_all, Str.bytes_eq}
 use Rattle.script_lang.specs.declared.faults.LineError.TheVariants as errors
-use Rattle.script_lang.specs.declared.faults.Reason.{Reason}
 use Rattle.script_lang.specs.declared.faults.Reason.TheVariants.{BadSession, UnknownCommand, MissingWord, BadHandle, BadName, BadKey, UnknownName, MissingField}
-use Rattle.script_lang.specs.declared.faults.ScriptFault.{ScriptFault}
-use Rattle.script_lang.specs.declared.faults.ScriptFault.TheVariants.{TooLong, TooManyLines, BadLine}
+use Rattle.script_lang.specs.{declared.faults.ScriptFault.ScriptFault, declared.faults.ScriptFault.TheVariants.TooLong, declared.faults.ScriptFault.TheVariants.TooManyLines, declared.faults.ScriptFault.TheVariants.BadLine, declared.script.KeyWord.TheVariants.Given, declared.script.KeyWord.TheVariants.Line, declared.script.ScriptCall.ScriptCall, declared.script.ScriptLine.ScriptLine}
 use Rattle.script_lang.specs.declared.faults.ScriptFault.TheVariants as faults
-use Rattle.script_lang.specs.declared.script.KeyWord.TheVariants.{Given, Line}
-use Rattle.script_lang.specs.declared.script.ScriptCall.{ScriptCall}
-use Rattle.script_lang.specs.declared.script.ScriptLine.{ScriptLine}
-use Rattle.script_lang.specs.declared.fixed.Fixed.{Fixed}
 use Rattle.script_lang.specs.declared.commands.Kind.TheVariants as kind
 
 abbrev pub is_letter : ℕ → Bool

@@ -1,6 +1,5 @@
 -- Numbers as texts.
-use Rattle.std.specs.Prelude.{ℕ, ◌+◌, ◌*◌, ◌||◌, nat_lt, nat_le, List, [], ◌∷◌, length, if◌then◌else◌, Option, Some, None, option_and_then}
-use Rattle.std.specs.Char.{digit_value}
+use Rattle.std.specs.{Prelude.ℕ, Prelude.◌+◌, Prelude.◌*◌, Prelude.◌||◌, Prelude.nat_lt, Prelude.nat_le, Prelude.List, Prelude.[], Prelude.◌∷◌, Prelude.length, Prelude.if◌then◌else◌, Prelude.Option, Prelude.Some, Prelude.None, Prelude.option_and_then, Char.digit_value}
 
 -- a digit in a base, at most 16, in either case
 abbrev pub digit_in : ℕ → ℕ → Option ℕ

@@ -1,21 +1,10 @@
 -- Why a text is no script: the first line that is outside the grammar, and the first reason in it, from left
 -- to right.
 use Rattle.std.specs.Prelude.{ℕ, ◌≡◌, ◌≤◌, ◌<◌, ◌+◌, ◌⊎◌, true, false, List, [], ◌∷◌, ◌++◌, length, None}
-use Rattle.script_lang.specs.Pieces.{line_words, text_lines}
-use Rattle.script_lang.specs.Shapes.{Shape}
-use Rattle.script_lang.specs.Commands.{IsRow}
-use Rattle.script_lang.specs.Fields.{Fields, form_of, field_name, is_allowed, has_field, has_required}
-use Rattle.script_lang.specs.Lines.{Places, Read, nothing_read, no_words}
-use Rattle.script_lang.specs.Grammar.{IsForm, IsField, IsName, IsKeyWord, IsOneTo, IsFixed, AreFixed, AreSteps}
-use Rattle.script_lang.specs.declared.faults.Reason.{Reason}
+use Rattle.script_lang.specs.{Pieces.line_words, Pieces.text_lines, Shapes.Shape, Commands.IsRow, Fields.Fields, Fields.form_of, Fields.field_name, Fields.is_allowed, Fields.has_field, Fields.has_required, Lines.Places, Lines.Read, Lines.nothing_read, Lines.no_words, declared.faults.Reason.Reason, declared.faults.ScriptFault.ScriptFault, declared.fields.Field.Field, declared.fixed.Fixed.Fixed}
+use Rattle.script_lang.specs.{Grammar.IsForm, Grammar.IsField, Grammar.IsName, Grammar.IsKeyWord, Grammar.IsOneTo, Grammar.IsFixed, Grammar.AreFixed, Grammar.AreSteps, declared.fields.FieldValue.FieldValue, declared.script.KeyWord.KeyWord, declared.commands.Kind.Kind}
 use Rattle.script_lang.specs.declared.faults.Reason.TheVariants.{BadSession, UnknownCommand, MissingWord, BadHandle, BadName, BadKey, UnknownName, UnknownField, RepeatedField, BadValue, MissingField}
-use Rattle.script_lang.specs.declared.faults.ScriptFault.{ScriptFault}
 use Rattle.script_lang.specs.declared.faults.ScriptFault.TheVariants as faults
-use Rattle.script_lang.specs.declared.fields.Field.{Field}
-use Rattle.script_lang.specs.declared.fields.FieldValue.{FieldValue}
-use Rattle.script_lang.specs.declared.fixed.Fixed.{Fixed}
-use Rattle.script_lang.specs.declared.script.KeyWord.{KeyWord}
-use Rattle.script_lang.specs.declared.commands.Kind.{Kind}
 use Rattle.script_lang.specs.declared.commands.Kind.TheVariants as kind
 
 -- a word that should be a fixed word of a kind; a bad key is none whatever names were given

@@ -2,9 +2,7 @@
 use Rattle.std.specs.Prelude.{ℕ, zero, suc, ◌≡◌, ◌+◌, ◌==◌, List, [], ◌∷◌, ◌++◌, filter, slice_get, Option, IfSome, option_map}
 use Rattle.store_model.specs.Call as model
 use Rattle.store_model.specs.Prelude.{Output, Reply, output_bytes, Service, Entry, outcome_of, reply_at}
-use Rattle.script_lang.specs.declared.script.ScriptLine.{ScriptLine}
-use Rattle.script_lang.specs.Commands.{request_of}
-use Rattle.script_lang.specs.Replies.{ReplyLine}
+use Rattle.script_lang.specs.{declared.script.ScriptLine.ScriptLine, Commands.request_of, Replies.ReplyLine}
 
 -- the identifier that a call gave, or 0
 abbrev pub id_given : Output → ℕ

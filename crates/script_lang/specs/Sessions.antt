@@ -1,10 +1,6 @@
 -- What is known of each session while its lines are read.
-use Rattle.std.specs.Prelude.{ℕ, ◌≡◌, List, Option, None, Some, slice_get, IfSome, length}
-use Rattle.std.specs.Str.{bytes_eq}
-use Rattle.std.specs.HashMap.{get_by}
-use Rattle.script_lang.specs.Lines.{Places, Read, lines_of}
-use Rattle.script_lang.specs.declared.script.ScriptLine.{ScriptLine}
-use Rattle.script_lang.specs.declared.sessions.SessionNames.{SessionNames}
+use Rattle.std.specs.{Prelude.ℕ, Prelude.◌≡◌, Prelude.List, Prelude.Option, Prelude.None, Prelude.Some, Prelude.slice_get, Prelude.IfSome, Prelude.length, Str.bytes_eq, HashMap.get_by}
+use Rattle.script_lang.specs.{Lines.Places, Lines.Read, Lines.lines_of, declared.script.ScriptLine.ScriptLine, declared.sessions.SessionNames.SessionNames}
 
 -- what the names of a session stand for
 unfoldable pub places_of : SessionNames → Places

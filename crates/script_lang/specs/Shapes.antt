@@ -1,9 +1,6 @@
 -- The row of a command.
 use Rattle.std.specs.Prelude.{ℕ, List}
-use Rattle.script_lang.specs.declared.fields.Field.{Field}
-use Rattle.script_lang.specs.declared.commands.Kind.{Kind}
-use Rattle.script_lang.specs.declared.commands.ScriptCommand.{ScriptCommand}
-use Rattle.script_lang.specs.declared.commands.Row.{Row}
+use Rattle.script_lang.specs.{declared.fields.Field.Field, declared.commands.Kind.Kind, declared.commands.ScriptCommand.ScriptCommand, declared.commands.Row.Row}
 
 -- the word of a command, its fixed words in order, the fields that it needs, and those that may stand
 pub record Shape : Type 0 where

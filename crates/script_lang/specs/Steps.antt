@@ -1,7 +1,6 @@
 -- Steps of reading, each of which may find a line outside the grammar.
 use Rattle.std.specs.Prelude.{◌≡◌, Bool, true, false, Result, Ok, Err}
-use Rattle.script_lang.specs.declared.faults.Reason.{Reason}
-use Rattle.script_lang.specs.declared.faults.LineError.{LineError}
+use Rattle.script_lang.specs.{declared.faults.Reason.Reason, declared.faults.LineError.LineError}
 use Rattle.script_lang.specs.declared.faults.LineError.TheVariants as errors
 
 infixl 10 ◌>>=◌

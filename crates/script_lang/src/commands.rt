@@ -1,9 +1,6 @@
 // The commands of the grammar, and how each is written.
-ghost use Rattle.std.specs.Prelude.{◌≡◌, find, map};
-ghost use Rattle.std.specs.Str.{bytes_eq};
-ghost use Rattle.std.specs.Option.{option_copied, option_map};
-ghost use Rattle.script_lang.specs.Shapes.{shape};
-ghost use Rattle.script_lang.specs.Commands.{row_named, rows};
+ghost use Rattle.std.specs.{Prelude.◌≡◌, Prelude.find, Prelude.map, Str.bytes_eq, Option.option_copied, Option.option_map};
+ghost use Rattle.script_lang.specs.{Shapes.shape, Commands.row_named, Commands.rows};
 
 use crate::fields::Field::{
     Ad, AdLength, Alg, Alg2, Bits, Capacity, Data, Hash, Id, Iv, Length, Life, Mac, Nonce,

@@ -1,6 +1,5 @@
 // The fields of a line, and what they say.
-ghost use Rattle.std.specs.Prelude.{◌≡◌, ◌≤◌, find};
-ghost use Rattle.std.specs.Option.{option_copied};
+ghost use Rattle.std.specs.{Prelude.◌≡◌, Prelude.◌≤◌, Prelude.find, Option.option_copied};
 ghost use Rattle.script_lang.specs.Fields.{alg_at, attributes_at, bytes_at, is_field, long_at, room_at, short_at, word_at};
 
 use crate::fields::{Field, FieldValue, ROOM};

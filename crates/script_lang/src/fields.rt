@@ -1,11 +1,6 @@
 // The fields of a line.
-ghost use Rattle.std.specs.Prelude.{◌≡◌, ◌≤◌, ◌<◌, ◌+◌, ◌^◌, [], ok_or};
-ghost use Rattle.std.specs.Option.{option_copied};
-ghost use Rattle.std.specs.Str.{bytes_eq};
-ghost use Rattle.script_lang.specs.declared.faults.Reason.TheVariants.{BadValue};
-ghost use Rattle.script_lang.specs.Shapes.{shape};
-ghost use Rattle.script_lang.specs.Steps.{Gives};
-ghost use Rattle.script_lang.specs.Fields.{field_number, field_named, field_name, all_fields, field_value, has_field, is_among, has_required, ShortForm, WordForm, LongForm, BytesForm, form_value, read_field, read_fields};
+ghost use Rattle.std.specs.{Prelude.◌≡◌, Prelude.◌≤◌, Prelude.◌<◌, Prelude.◌+◌, Prelude.◌^◌, Prelude.[], Prelude.ok_or, Option.option_copied, Str.bytes_eq};
+ghost use Rattle.script_lang.specs.{declared.faults.Reason.TheVariants.BadValue, Shapes.shape, Steps.Gives, Fields.field_number, Fields.field_named, Fields.field_name, Fields.all_fields, Fields.field_value, Fields.has_field, Fields.is_among, Fields.has_required, Fields.ShortForm, Fields.WordForm, Fields.LongForm, Fields.BytesForm, Fields.form_value, Fields.read_field, Fields.read_fields};
 
 use crate::commands::Row;
 use crate::faults::{LineError, Reason};

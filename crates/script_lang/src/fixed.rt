@@ -1,9 +1,6 @@
 // The fixed words of a line.
-ghost use Rattle.std.specs.Prelude.{◌≡◌, OnOk, IfErr, Ok};
-ghost use Rattle.std.specs.List.{list_all};
-ghost use Rattle.script_lang.specs.Steps.{Gives, Fails};
-ghost use Rattle.script_lang.specs.Lines.{handle_at, is_name, is_name_byte, key_at, no_words, with_word, read_fixed};
-ghost use Rattle.script_lang.specs.Sessions.{places_of};
+ghost use Rattle.std.specs.{Prelude.◌≡◌, Prelude.OnOk, Prelude.IfErr, Prelude.Ok, List.list_all};
+ghost use Rattle.script_lang.specs.{Steps.Gives, Steps.Fails, Lines.handle_at, Lines.is_name, Lines.is_name_byte, Lines.key_at, Lines.no_words, Lines.with_word, Lines.read_fixed, Sessions.places_of};
 
 use crate::commands::Kind;
 use crate::faults::{LineError, Reason};

@@ -1,10 +1,6 @@
 // What is read of a text is what the grammar says of it.
 ghost use Rattle.std.specs.Prelude.{◌≡◌, ℕ, List, Ok, Err};
-ghost use Rattle.script_lang.specs.declared.faults.ScriptFault.{ScriptFault};
-ghost use Rattle.script_lang.specs.declared.script.ScriptLine.{ScriptLine};
-ghost use Rattle.script_lang.specs.Lines.{script_of};
-ghost use Rattle.script_lang.specs.Grammar.{IsScript};
-ghost use Rattle.script_lang.specs.Outside.{IsFault};
+ghost use Rattle.script_lang.specs.{declared.faults.ScriptFault.ScriptFault, declared.script.ScriptLine.ScriptLine, Lines.script_of, Grammar.IsScript, Outside.IsFault};
 
 /// A text is read as calls exactly where the grammar says that it says them. It is refused exactly where it is
 /// outside the grammar, and then for the first reason.

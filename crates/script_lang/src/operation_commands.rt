@@ -1,8 +1,7 @@
 // The commands on operations, and the calls that their lines make.
 ghost use Rattle.std.specs.Prelude.{◌≡◌};
 ghost use Rattle.service_calls.specs.Meanings.{model_handle_call};
-ghost use Rattle.script_lang.specs.Commands.{aead_call, cipher_call, derivation_call, hash_call, mac_call};
-ghost use Rattle.script_lang.specs.Fields.{room_at};
+ghost use Rattle.script_lang.specs.{Commands.aead_call, Commands.cipher_call, Commands.derivation_call, Commands.hash_call, Commands.mac_call, Fields.room_at};
 
 use crate::field_list::Fields;
 use crate::fields::Field;

@@ -1,10 +1,6 @@
 // A script, read line by line.
 ghost use Rattle.std.specs.Prelude.{◌≡◌, ◌≤◌, ◌<◌, ◌+◌, ◌^◌, [], length, nat_lt, All, OnOk, IfOk, IfErr, IfSome, IsErr, Ok, ℕ, List};
-ghost use Rattle.script_lang.specs.declared.faults.LineError.TheVariants.{Memory};
-ghost use Rattle.script_lang.specs.Steps.{Fails, Gives};
-ghost use Rattle.script_lang.specs.Pieces.{line_words, text_lines};
-ghost use Rattle.script_lang.specs.Lines.{session_of, with_call, parts_at, words_at, lines_at, nothing_read, fault_at, script_of, ScriptGives, IsOfSession};
-ghost use Rattle.script_lang.specs.Shapes.{shape};
+ghost use Rattle.script_lang.specs.{declared.faults.LineError.TheVariants.Memory, Steps.Fails, Steps.Gives, Pieces.line_words, Pieces.text_lines, Lines.session_of, Lines.with_call, Lines.parts_at, Lines.words_at, Lines.lines_at, Lines.nothing_read, Lines.fault_at, Lines.script_of, Lines.ScriptGives, Lines.IsOfSession, Shapes.shape};
 ghost use Rattle.script_lang.specs.Sessions.{places_of, read_of, AreCounted, IsNew};
 
 use crate::commands::{Row, row_named};

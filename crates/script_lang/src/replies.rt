@@ -1,6 +1,5 @@
 // The replies of a session, as text.
-ghost use Rattle.std.specs.Prelude.{◌≡◌, ◌<◌, ◌-◌, ◌+◌, ◌^◌, ◌++◌, ◌∷◌, [], List, OnErr, OnOk, codes, cond, length};
-ghost use Rattle.std.specs.Fmt.{decimal};
+ghost use Rattle.std.specs.{Prelude.◌≡◌, Prelude.◌<◌, Prelude.◌-◌, Prelude.◌+◌, Prelude.◌^◌, Prelude.◌++◌, Prelude.◌∷◌, Prelude.[], Prelude.List, Prelude.OnErr, Prelude.OnOk, Prelude.codes, Prelude.cond, Prelude.length, Fmt.decimal};
 ghost use Rattle.hex.specs.Hex.{encode_lower};
 ghost use Rattle.psa_status.specs.Status.{status_name};
 ghost use Rattle.script_lang.specs.Replies.{AreKept, ReplyLine, bytes_text, next_line, succeeded, text_in};

@@ -1,8 +1,7 @@
 // A script as it was read.
 ghost use Rattle.std.specs.Prelude.{◌≡◌, ◌<◌, IfOk, slice_get, length, Some};
 ghost use Rattle.service_calls.specs.Meanings.{model_request};
-ghost use Rattle.script_lang.specs.Commands.{key_id_of, request_of};
-ghost use Rattle.script_lang.specs.Fields.{room_at};
+ghost use Rattle.script_lang.specs.{Commands.key_id_of, Commands.request_of, Fields.room_at};
 
 use crate::commands::ScriptCommand;
 use crate::field_list::Fields;

@@ -1,8 +1,6 @@
 // What is known of each session while its lines are read.
 ghost use Rattle.std.specs.Prelude.{◌≡◌, ℕ, List, None, OnOk, IfErr};
-ghost use Rattle.script_lang.specs.declared.faults.LineError.TheVariants.{Memory};
-ghost use Rattle.script_lang.specs.Lines.{given_place};
-ghost use Rattle.script_lang.specs.Sessions.{places_of};
+ghost use Rattle.script_lang.specs.{declared.faults.LineError.TheVariants.Memory, Lines.given_place, Sessions.places_of};
 
 use crate::faults::LineError;
 use crate::script::ByteList;

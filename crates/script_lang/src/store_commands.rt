@@ -1,8 +1,7 @@
 // The commands on the store, and the calls that their lines make.
 ghost use Rattle.std.specs.Prelude.{◌≡◌};
 ghost use Rattle.service_calls.specs.Meanings.{model_store_call};
-ghost use Rattle.script_lang.specs.Commands.{key_call, single_part_call};
-ghost use Rattle.script_lang.specs.Fields.{room_at};
+ghost use Rattle.script_lang.specs.{Commands.key_call, Commands.single_part_call, Fields.room_at};
 
 use crate::field_list::Fields;
 use crate::fields::Field;

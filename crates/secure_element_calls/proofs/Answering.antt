@@ -1,9 +1,7 @@
 -- What the model replies to a call, and what its answer is.
 use Rattle.std.proofs.Common.{Bool, Err, List, MatchOption, None, Ok, Option, Result, Some, [], ap, ap₂, arith, cond, drop, false, if◌then◌else◌, length, not, refl, replicate, subst, sym, true, ℕ, ◌++◌, ◌-◌, ◌∙◌, ◌≡◌}
 use Rattle.secure_element_calls.proofs.Common.{agrees_by, append-nil, buffer_after, Bytes, Compares, Computed, computed_unless, CtrDecrypt, CtrEncrypt, done, drop_at, element_reply, ElementCall, first_row, given, given_by, HardwareFailure, HeldKey, HeldKeys, HoldsHandle, InvalidArgument, InvalidSignature, length-replicate, MacCompute, MacVerify, needed_by, nil_from_length, refusal, Reply, reply_unless, rows_before, spoiled, Status, Success, unless, unless-ok}
-use Rattle.secure_element_calls.specs.declared.calls.NotComputed.{NotComputed}
-use Rattle.secure_element_calls.specs.declared.calls.NotComputed.TheVariants.{Refused, Failed}
-use Rattle.secure_element_calls.specs.Answers.{AnswersCall, IsComputed, IsOfElement, reply_to}
+use Rattle.secure_element_calls.specs.{declared.calls.NotComputed.NotComputed, declared.calls.NotComputed.TheVariants.Refused, declared.calls.NotComputed.TheVariants.Failed, Answers.AnswersCall, Answers.IsComputed, Answers.IsOfElement, Answers.reply_to}
 use Rattle.secure_element_calls.proofs.Holding.{holds_as, holds_both}
 
 -- one row, or two, of which the second compares a MAC

@@ -1,7 +1,6 @@
 -- Counter blocks that are enciphered each by itself.
-use Rattle.std.proofs.Common.{List, [], ap, ap₂, arith, drop, length, map, suc, sym, take, zero, ℕ, ◌%◌, ◌*◌, ◌++◌, ◌+◌, ◌/◌, ◌<◌, ◌^◌, ◌∙◌, ◌∷◌, ◌≡◌}
+use Rattle.std.proofs.{Common.List, Common.[], Common.ap, Common.ap₂, Common.arith, Common.drop, Common.length, Common.map, Common.suc, Common.sym, Common.take, Common.zero, Common.ℕ, Common.◌%◌, Common.◌*◌, Common.◌++◌, Common.◌+◌, Common.◌/◌, Common.◌<◌, Common.◌^◌, Common.◌∙◌, Common.◌∷◌, Common.◌≡◌, lemmas.Grind.flat_map-append}
 use Rattle.secure_element_calls.proofs.Common.{append-nil, blocks, counter_block, counter_block_is, drop-append-le, ecb_encrypt, joined, key_stream, key_stream_next, length-append, length-drop, length-number_block, map-append, nil_from_length, number_block, number_of_block, take-append-le, take_all}
-use Rattle.std.proofs.lemmas.Grind.{flat_map-append}
 
 -- one more block
 blocks_more : (n : ℕ) (xs b : List ℕ) → length xs ≡ 16 * n → length b ≡ 16 → blocks (suc n) (xs ++ b) ≡ blocks n xs ++ b ∷ []

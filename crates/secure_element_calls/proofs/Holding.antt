@@ -1,8 +1,7 @@
 -- Facts about the key under a handle, where the device tells it.
 use Rattle.std.proofs.Common.{Bool, Err, IsTrue, None, Ok, OnOk, Option, Result, Some, false, if◌then◌else◌, refl, subst, ℕ, ◌==◌, ◌≡◌}
 use Rattle.secure_element_calls.proofs.Common.{algorithm_asked, ctr, ElementCall, eqb-true, fits_type, held_key, HeldKey, HeldKeys, HoldsHandle, is_hmac, IsSomeKey}
-use Rattle.alg_encoding.specs.Encoding.{base_of, entry_of}
-use Rattle.alg_encoding.specs.Table.{base_at}
+use Rattle.alg_encoding.specs.{Encoding.base_of, Encoding.entry_of, Table.base_at}
 
 some_with : (o : Option HeldKey) (P Q R : HeldKey → Type 0) → IsSomeKey o P → IsSomeKey o Q → ((key : HeldKey) → P key → Q key → R key) → IsSomeKey o R
 some_with None P Q R p q f = p

@@ -4,10 +4,7 @@ use Rattle.secure_element_calls.proofs.Common.{aes_encrypt, block_count, blocks,
 use Rattle.std.specs.List.{fold}
 use Rattle.crypto_specs.proofs.KeyStream.{length-key_stream}
 use Rattle.hash_ops.proofs.Digests.{length-hash_of}
-use Rattle.key_policy.specs.declared.algorithms.MacAlgorithm.{MacAlgorithm}
-use Rattle.key_policy.specs.declared.algorithms.MacKind.{MacKind}
-use Rattle.key_policy.specs.declared.algorithms.MacKind.TheVariants.{Hmac, Cmac}
-use Rattle.key_policy.specs.Names.{NamesMac, whole_length, whole_mac_by}
+use Rattle.key_policy.specs.{declared.algorithms.MacAlgorithm.MacAlgorithm, declared.algorithms.MacKind.MacKind, declared.algorithms.MacKind.TheVariants.Hmac, declared.algorithms.MacKind.TheVariants.Cmac, Names.NamesMac, Names.whole_length, Names.whole_mac_by}
 
 length-chain : (key : List ℕ) (bs : List (List ℕ)) (z b : List ℕ) → length (fold (chain_step (aes_encrypt key)) z (bs ++ b ∷ [])) ≡ 16
 length-chain key [] z b = length-aes_encrypt key (xor_bytes z b)

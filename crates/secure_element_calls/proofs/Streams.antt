@@ -2,10 +2,8 @@
 use Rattle.std.proofs.Common.{List, [], ap, ap₂, arith, bit_xor, drop, length, min, refl, slice_index, suc, sym, take, ℕ, ◌%◌, ◌*◌, ◌++◌, ◌+◌, ◌-◌, ◌/◌, ◌<◌, ◌^◌, ◌∙◌, ◌∷◌, ◌≡◌, ◌≤◌}
 use Rattle.secure_element_calls.proofs.Common.{aes_encrypt, append-nil, block_number, ctr_xor, drop_all, drop_min, number_block, number_of_block, take_all, take_min}
 use borrow.Rule.Slice.PartMut.{put_mid}
-use Rattle.aead_streams.specs.declared.counter_width.CounterWidth.TheVariants.{Whole}
-use Rattle.aead_streams.specs.Counters.{byte_of_stream, stream_block, text_xor}
-use Rattle.aead_streams.proofs.ModeStreams.{aes_keeps_length, ctr_is}
-use Rattle.aead_streams.proofs.StreamPlaces.{run_done}
+use Rattle.aead_streams.specs.{declared.counter_width.CounterWidth.TheVariants.Whole, Counters.byte_of_stream, Counters.stream_block, Counters.text_xor}
+use Rattle.aead_streams.proofs.{ModeStreams.aes_keeps_length, ModeStreams.ctr_is, StreamPlaces.run_done}
 
 -- the stream from a later counter block on
 later_byte : (e : List ℕ → List ℕ) (start counter m j : ℕ) → counter ≡ (start + m) % 2 ^ 128 → byte_of_stream e Whole counter j ≡ byte_of_stream e Whole start (16 * m + j)

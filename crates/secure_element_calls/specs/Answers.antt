@@ -1,17 +1,10 @@
 -- What a call answers that the secure element computes, and what it leaves in its output buffer.
 use Rattle.std.specs.Prelude.{ℕ, ◌≡◌, ⊤, List, length, drop, Option, Result, Ok, Err, MatchOption}
-use Rattle.psa_status.specs.declared.Status.{Status}
-use Rattle.psa_status.specs.declared.Status.TheVariants.{HardwareFailure, InvalidSignature}
-use Rattle.psa_status.specs.Rows.{first_row}
-use Rattle.driver_dispatch.specs.Held.{HeldKeys}
-use Rattle.driver_dispatch.specs.Calls.{HoldsHandle}
+use Rattle.psa_status.specs.{declared.Status.Status, declared.Status.TheVariants.HardwareFailure, declared.Status.TheVariants.InvalidSignature, Rows.first_row}
+use Rattle.driver_dispatch.specs.{Held.HeldKeys, Calls.HoldsHandle}
 use Rattle.store_model.specs.Prelude.{Nothing, Reply, buffer_after, FaultMark, Hardware, Plain, marked_reply, done}
 use Rattle.service_calls.specs.Answers.{GivesBytes}
-use Rattle.secure_element_calls.specs.declared.calls.ElementCall.{ElementCall}
-use Rattle.secure_element_calls.specs.declared.calls.ElementCall.TheVariants.{MacVerify}
-use Rattle.secure_element_calls.specs.declared.calls.NotComputed.{NotComputed}
-use Rattle.secure_element_calls.specs.declared.calls.NotComputed.TheVariants.{Refused, Failed}
-use Rattle.secure_element_calls.specs.Calls.{element_reply, needed_by, rows_before}
+use Rattle.secure_element_calls.specs.{declared.calls.ElementCall.ElementCall, declared.calls.ElementCall.TheVariants.MacVerify, declared.calls.NotComputed.NotComputed, declared.calls.NotComputed.TheVariants.Refused, declared.calls.NotComputed.TheVariants.Failed, Calls.element_reply, Calls.needed_by, Calls.rows_before}
 
 abbrev pub not_computed_status : NotComputed → Status
 not_computed_status (Refused status) = status

@@ -1,13 +1,10 @@
 -- The calls that the secure element computes, as calls of the model.
 use Rattle.std.specs.Prelude.{ℕ, ◌+◌, ◌-◌, ◌<◌, true, false, List, [], length, take}
 use Rattle.psa_status.specs.Rows.{Rows}
-use Rattle.alg_encoding.specs.declared.table.Class.{Class}
-use Rattle.alg_encoding.specs.declared.table.Class.TheVariants.{Mac, Cipher}
-use Rattle.store_model.specs.Prelude.{tag_bytes, Ctr, decrypt_rows, decrypted_reply, encrypt_rows, encrypted, compute_rows, mac_reply, verified_reply, cipher_usage, mac_usage}
+use Rattle.alg_encoding.specs.{declared.table.Class.Class, declared.table.Class.TheVariants.Mac, declared.table.Class.TheVariants.Cipher}
+use Rattle.store_model.specs.{Prelude.tag_bytes, Prelude.Ctr, Prelude.decrypt_rows, Prelude.decrypted_reply, Prelude.encrypt_rows, Prelude.encrypted, Prelude.compute_rows, Prelude.mac_reply, Prelude.verified_reply, Prelude.cipher_usage, Prelude.mac_usage, Macs.verify_rows}
 use Rattle.store_model.specs.Call as model
-use Rattle.store_model.specs.Macs.{verify_rows}
-use Rattle.secure_element_calls.specs.declared.calls.ElementCall.{ElementCall}
-use Rattle.secure_element_calls.specs.declared.calls.ElementCall.TheVariants.{MacCompute, MacVerify, CtrEncrypt, CtrDecrypt}
+use Rattle.secure_element_calls.specs.{declared.calls.ElementCall.ElementCall, declared.calls.ElementCall.TheVariants.MacCompute, declared.calls.ElementCall.TheVariants.MacVerify, declared.calls.ElementCall.TheVariants.CtrEncrypt, declared.calls.ElementCall.TheVariants.CtrDecrypt}
 
 -- the algorithm number of CTR
 abbrev pub ctr : ℕ

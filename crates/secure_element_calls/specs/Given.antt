@@ -2,8 +2,7 @@
 use Rattle.std.specs.Prelude.{ℕ, ◌≤◌, Bool, true, bytes_eq, List, [], ◌++◌, length, take, drop}
 use Rattle.crypto_specs.specs.Prelude.{aes_encrypt, ctr_xor}
 use Rattle.store_model.specs.Prelude.{mac_of}
-use Rattle.secure_element_calls.specs.declared.calls.ElementCall.{ElementCall}
-use Rattle.secure_element_calls.specs.declared.calls.ElementCall.TheVariants.{MacCompute, MacVerify, CtrEncrypt, CtrDecrypt}
+use Rattle.secure_element_calls.specs.{declared.calls.ElementCall.ElementCall, declared.calls.ElementCall.TheVariants.MacCompute, declared.calls.ElementCall.TheVariants.MacVerify, declared.calls.ElementCall.TheVariants.CtrEncrypt, declared.calls.ElementCall.TheVariants.CtrDecrypt}
 
 abbrev pub given_by : ElementCall → (key : List ℕ) → List ℕ
 given_by (MacCompute alg input) key = mac_of alg.0 key input.now

@@ -3,9 +3,7 @@ use Rattle.std.specs.Prelude.{ℕ, ◌≡◌, true, List, ◌++◌, Option, None
 use Rattle.std.specs.FinMap as map
 use Rattle.psa_status.specs.Rows.{Rows, first_row}
 use Rattle.store_model.specs.Prelude.{Key, is_opaque_key, Reply, reply_unless, bytes_of_key, use_rows, Service, next_random, OnStore, plain_step, asks_device}
-use Rattle.secure_element_calls.specs.declared.calls.ElementCall.{ElementCall}
-use Rattle.secure_element_calls.specs.declared.calls.ElementCall.TheVariants.{CtrEncrypt}
-use Rattle.secure_element_calls.specs.Calls.{algorithm_asked, class_asked, element_reply, model_call, rows_before, usage_asked}
+use Rattle.secure_element_calls.specs.{declared.calls.ElementCall.ElementCall, declared.calls.ElementCall.TheVariants.CtrEncrypt, Calls.algorithm_asked, Calls.class_asked, Calls.element_reply, Calls.model_call, Calls.rows_before, Calls.usage_asked}
 
 -- the refusals of the use of what the map has at the key's identifier
 abbrev pub key_rows : ElementCall → Option Key → Rows

@@ -1,7 +1,6 @@
 // Calls that the secure element computes.
 ghost use Rattle.std.specs.Prelude.{◌≡◌};
-ghost use Rattle.secure_element_calls.specs.Answers.{not_computed_status};
-ghost use Rattle.secure_element_calls.specs.Calls.{algorithm_asked, class_asked, usage_asked};
+ghost use Rattle.secure_element_calls.specs.{Answers.not_computed_status, Calls.algorithm_asked, Calls.class_asked, Calls.usage_asked};
 
 use alg_encoding::Class;
 use key_attributes::Usage;

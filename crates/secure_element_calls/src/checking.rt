@@ -4,8 +4,7 @@ ghost use Rattle.psa_status.specs.Rows.{first_row, unless};
 ghost use Rattle.alg_encoding.specs.declared.table.Class.TheVariants.{Mac};
 ghost use Rattle.key_policy.specs.Names.{IsOfClass};
 ghost use Rattle.store_model.specs.Prelude.{mac_of, tag_bytes, Ctr, decrypt_rows, encrypt_rows, compute_rows};
-ghost use Rattle.secure_element_calls.specs.Calls.{algorithm_asked, class_asked, needed_by, rows_before};
-ghost use Rattle.secure_element_calls.specs.Given.{HasVector, given_by};
+ghost use Rattle.secure_element_calls.specs.{Calls.algorithm_asked, Calls.class_asked, Calls.needed_by, Calls.rows_before, Given.HasVector, Given.given_by};
 ghost use Rattle.driver_dispatch.specs.Calls.{IsMac};
 
 use crate::ElementCall;

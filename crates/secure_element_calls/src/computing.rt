@@ -4,8 +4,7 @@ ghost use Rattle.psa_status.specs.Causes.{Rose};
 ghost use Rattle.key_policy.specs.Names.{IsOfClass};
 ghost use Rattle.driver_dispatch.specs.Calls.{HoldsHandle, has_element};
 ghost use Rattle.store_model.specs.Prelude.{fits_type};
-ghost use Rattle.secure_element_calls.specs.Answers.{IsComputed, IsOfServed, IsRefusedBefore};
-ghost use Rattle.secure_element_calls.specs.Calls.{AsksElement, algorithm_asked, class_asked};
+ghost use Rattle.secure_element_calls.specs.{Answers.IsComputed, Answers.IsOfServed, Answers.IsRefusedBefore, Calls.AsksElement, Calls.algorithm_asked, Calls.class_asked};
 ghost use Rattle.secure_element_calls.specs.declared.calls.NotComputed.TheVariants as uncomputed;
 
 use crate::filling::fill;

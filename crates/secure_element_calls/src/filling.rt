@@ -6,8 +6,7 @@ ghost use Rattle.key_policy.specs.Names.{IsOfClass};
 ghost use Rattle.crypto_specs.specs.Prelude.{aes_encrypt, ctr_xor};
 ghost use Rattle.driver_dispatch.specs.Calls.{CountsServed, HoldsHandle, has_element};
 ghost use Rattle.store_model.specs.Prelude.{mac_of, fits_type};
-ghost use Rattle.secure_element_calls.specs.Calls.{AsksElement, algorithm_asked, class_asked, needed_by};
-ghost use Rattle.secure_element_calls.specs.Given.{Compares, HasVector, agrees_by, given_by};
+ghost use Rattle.secure_element_calls.specs.{Calls.AsksElement, Calls.algorithm_asked, Calls.class_asked, Calls.needed_by, Given.Compares, Given.HasVector, Given.agrees_by, Given.given_by};
 
 use crate::ElementCall;
 use crate::checking::mac_length;

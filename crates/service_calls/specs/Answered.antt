@@ -1,11 +1,9 @@
 -- What a call answers, as a reply of the model.
 use Rattle.std.specs.Prelude.{ℕ, ◌≡◌, Result, Ok, Err}
-use Rattle.psa_status.specs.declared.Status.{Status}
-use Rattle.psa_status.specs.declared.Status.TheVariants.{Success}
+use Rattle.psa_status.specs.{declared.Status.Status, declared.Status.TheVariants.Success}
 use Rattle.store_model.specs.Call as model
-use Rattle.service_calls.specs.Answers.{GivesBytes}
+use Rattle.service_calls.specs.{Answers.GivesBytes, declared.output.Output.Output}
 use Rattle.store_model.specs.Prelude.{Reply, Nothing, refusal, done}
-use Rattle.service_calls.specs.declared.output.Output.{Output}
 use Rattle.service_calls.specs.declared.output.Output.TheVariants as output
 
 -- a call that gives a number

@@ -1,9 +1,7 @@
 -- What a turn answers, as a reply of the model.
 use Rattle.std.specs.Prelude.{ℕ, ◌≡◌, Result, Ok, Err, length}
-use Rattle.psa_status.specs.declared.Status.{Status}
-use Rattle.psa_status.specs.declared.Status.TheVariants.{Success}
-use Rattle.key_attributes.specs.declared.KeyId.{KeyId}
-use Rattle.key_attributes.specs.declared.Attributes.{Attributes}
+use Rattle.psa_status.specs.{declared.Status.Status, declared.Status.TheVariants.Success}
+use Rattle.key_attributes.specs.{declared.KeyId.KeyId, declared.Attributes.Attributes}
 use Rattle.store_model.specs.Prelude.{Reply, Nothing, Identifier, Description, Bytes, buffer_bytes, refusal, done}
 
 -- a creation answers the identifier

@@ -2,17 +2,8 @@
 use Rattle.std.specs.Prelude.{ℕ}
 use Rattle.alg_encoding.specs.declared.algorithm.Alg.{Alg}
 use Rattle.key_attributes.specs.declared.KeyId.{KeyId}
-use Rattle.service_calls.specs.declared.call.Call.{Call}
-use Rattle.service_calls.specs.declared.call.Call.TheVariants.{OnStore, OnHandle}
-use Rattle.service_calls.specs.declared.store_calls.Creation.{Creation}
-use Rattle.service_calls.specs.declared.store_calls.KeyChange.{KeyChange}
-use Rattle.service_calls.specs.declared.store_calls.HashCall.{HashCall}
-use Rattle.service_calls.specs.declared.store_calls.KeyedCall.{KeyedCall}
-use Rattle.service_calls.specs.declared.store_calls.StoreCall.TheVariants.{Create, Change, Hash, Compute}
-use Rattle.service_calls.specs.declared.handle_calls.HandleCall.TheVariants.{Setup}
-use Rattle.service_calls.specs.declared.handle_calls.KeylessSetup.{KeylessSetup}
-use Rattle.service_calls.specs.declared.handle_calls.Purpose.{Purpose}
-use Rattle.service_calls.specs.declared.handle_calls.Setup.TheVariants.{Keyless, Keyed}
+use Rattle.service_calls.specs.{declared.call.Call.Call, declared.call.Call.TheVariants.OnStore, declared.call.Call.TheVariants.OnHandle, declared.store_calls.Creation.Creation, declared.store_calls.KeyChange.KeyChange, declared.store_calls.HashCall.HashCall, declared.store_calls.KeyedCall.KeyedCall, declared.handle_calls.HandleCall.TheVariants.Setup, declared.handle_calls.Purpose.Purpose}
+use Rattle.service_calls.specs.{declared.store_calls.StoreCall.TheVariants.Create, declared.store_calls.StoreCall.TheVariants.Change, declared.store_calls.StoreCall.TheVariants.Hash, declared.store_calls.StoreCall.TheVariants.Compute, declared.handle_calls.KeylessSetup.KeylessSetup, declared.handle_calls.Setup.TheVariants.Keyless, declared.handle_calls.Setup.TheVariants.Keyed}
 
 abbrev pub creates : Creation → Call
 creates c = OnStore (Create c)

@@ -7,38 +7,24 @@ use Rattle.store_model.specs.AeadOperations as aeads
 use Rattle.store_model.specs.DerivationOperations as derivations
 use Rattle.store_model.specs.HandleCalls as model
 use Rattle.store_model.specs.Call as on_store
-use Rattle.service_calls.specs.declared.steps.HashStep.{HashStep}
+use Rattle.service_calls.specs.{declared.steps.HashStep.HashStep, declared.steps.MacStep.MacStep, declared.steps.CipherStep.CipherStep, declared.steps.AeadStep.AeadStep, declared.steps.DerivationStep.DerivationStep, declared.steps.Step.Step, declared.handle_calls.Purpose.Purpose, declared.handle_calls.KeylessSetup.KeylessSetup, declared.handle_calls.Setup.Setup, declared.call.Call.Call}
 use Rattle.service_calls.specs.declared.steps.HashStep.TheVariants as hash
-use Rattle.service_calls.specs.declared.steps.MacStep.{MacStep}
 use Rattle.service_calls.specs.declared.steps.MacStep.TheVariants as mac
-use Rattle.service_calls.specs.declared.steps.CipherStep.{CipherStep}
 use Rattle.service_calls.specs.declared.steps.CipherStep.TheVariants as cipher
-use Rattle.service_calls.specs.declared.steps.AeadStep.{AeadStep}
 use Rattle.service_calls.specs.declared.steps.AeadStep.TheVariants as aead
-use Rattle.service_calls.specs.declared.steps.DerivationStep.{DerivationStep}
 use Rattle.service_calls.specs.declared.steps.DerivationStep.TheVariants as derivation
-use Rattle.service_calls.specs.declared.steps.Step.{Step}
 use Rattle.service_calls.specs.declared.steps.Step.TheVariants as step
-use Rattle.service_calls.specs.declared.handle_calls.Purpose.{Purpose}
 use Rattle.service_calls.specs.declared.handle_calls.Purpose.TheVariants as purpose
-use Rattle.service_calls.specs.declared.handle_calls.KeylessSetup.{KeylessSetup}
 use Rattle.service_calls.specs.declared.handle_calls.KeylessSetup.TheVariants as keyless
-use Rattle.service_calls.specs.declared.handle_calls.Setup.{Setup}
 use Rattle.service_calls.specs.declared.handle_calls.Setup.TheVariants as setup
-use Rattle.service_calls.specs.declared.handle_calls.HandleCall.{HandleCall}
+use Rattle.service_calls.specs.{declared.handle_calls.HandleCall.HandleCall, declared.store_calls.Creation.Creation, declared.store_calls.KeyChange.KeyChange, declared.store_calls.HashCall.HashCall, declared.store_calls.KeyedCall.KeyedCall, declared.store_calls.StoreCall.StoreCall}
 use Rattle.service_calls.specs.declared.handle_calls.HandleCall.TheVariants as call
 use Rattle.store_model.specs.Prelude.{Request, OnStore, OnHandle}
-use Rattle.service_calls.specs.declared.call.Call.{Call}
 use Rattle.service_calls.specs.declared.call.Call.TheVariants as asked
-use Rattle.service_calls.specs.declared.store_calls.Creation.{Creation}
 use Rattle.service_calls.specs.declared.store_calls.Creation.TheVariants as creation
-use Rattle.service_calls.specs.declared.store_calls.KeyChange.{KeyChange}
 use Rattle.service_calls.specs.declared.store_calls.KeyChange.TheVariants as change
-use Rattle.service_calls.specs.declared.store_calls.HashCall.{HashCall}
 use Rattle.service_calls.specs.declared.store_calls.HashCall.TheVariants as hash_call
-use Rattle.service_calls.specs.declared.store_calls.KeyedCall.{KeyedCall}
 use Rattle.service_calls.specs.declared.store_calls.KeyedCall.TheVariants as keyed
-use Rattle.service_calls.specs.declared.store_calls.StoreCall.{StoreCall}
 use Rattle.service_calls.specs.declared.store_calls.StoreCall.TheVariants as store
 
 abbrev pub model_hash_step : HashStep → (room : ℕ) → hashes.HashStep

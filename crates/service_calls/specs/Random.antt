@@ -1,9 +1,6 @@
 -- Which steps may take random bytes.
 use Rattle.std.specs.Prelude.{Bool, true, false}
-use Rattle.service_calls.specs.declared.steps.CipherStep.{CipherStep}
-use Rattle.service_calls.specs.declared.steps.CipherStep.TheVariants.{GenerateIv}
-use Rattle.service_calls.specs.declared.steps.AeadStep.{AeadStep}
-use Rattle.service_calls.specs.declared.steps.AeadStep.TheVariants.{GenerateNonce}
+use Rattle.service_calls.specs.{declared.steps.CipherStep.CipherStep, declared.steps.CipherStep.TheVariants.GenerateIv, declared.steps.AeadStep.AeadStep, declared.steps.AeadStep.TheVariants.GenerateNonce}
 
 abbrev pub takes_iv_bytes : CipherStep → Bool
 takes_iv_bytes GenerateIv = true

@@ -1,8 +1,7 @@
 // What calls answer.
 ghost use Rattle.std.specs.Prelude.{◌≡◌, ℕ, List};
-ghost use Rattle.service_calls.specs.Answers.{AnswersLength, AnswersOrSpoils, attributes_answer, id_reply, plain_reply};
+ghost use Rattle.service_calls.specs.{Answers.AnswersLength, Answers.AnswersOrSpoils, Answers.attributes_answer, Answers.id_reply, Answers.plain_reply, Answered.AnswersReply, Answered.number_reply};
 ghost use Rattle.store_model.specs.Prelude.{Reply, buffer_after};
-ghost use Rattle.service_calls.specs.Answered.{AnswersReply, number_reply};
 
 use key_attributes::{Attributes, KeyId};
 use psa_status::Status;

@@ -1,7 +1,6 @@
 -- The turns of the replay, and those that are told.
 use Rattle.session_host.proofs.Common.{All, All-cons, All-head, All-nil, All-tail, AreCalls, ArePrintedAlike, AreTurnsIn, Bool, Entry, IsTurnIn, List, ScriptLine, Service, StartsWith, ToldBy, Turn, World, [], ap, append-nil, append_assoc, arith, begins_through, cond, eqb, false, id_given, is_some, known_told, length, length-append, map, numbered, of_calls, outcome_of, ranked_call, refl, replay, subst, sym, told_front, true, turns_from, turns_of, two_beginnings, ℕ, ◌++◌, ◌+◌, ◌∙◌, ◌∷◌, ◌≡◌, ◌≤◌, IsStartOf}
-use Rattle.std.proofs.lemmas.Bool.{false≢true}
-use Rattle.std.proofs.Common.{⊎_elim}
+use Rattle.std.proofs.{lemmas.Bool.false≢true, Common.⊎_elim}
 use Rattle.store_core.proofs.Histories.{replay_push}
 
 -- a turn of the replay: its reply is that to its entry there

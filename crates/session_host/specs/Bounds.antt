@@ -1,7 +1,6 @@
 -- How many calls of a history met the failure of a device, and how many reply lines say so.
 use Rattle.std.specs.Prelude.{◌≡◌, ◌≤◌, ◌<◌, ◌+◌, ◌-◌, ◌^◌, ℕ, Bool, true, false, count_by, List, All, map, Option, Some}
-use Rattle.psa_status.specs.declared.Status.{Status}
-use Rattle.psa_status.specs.declared.Status.TheVariants.{StorageFailure, HardwareFailure, DataCorrupt}
+use Rattle.psa_status.specs.{declared.Status.Status, declared.Status.TheVariants.StorageFailure, declared.Status.TheVariants.HardwareFailure, declared.Status.TheVariants.DataCorrupt}
 use Rattle.store_model.specs.Prelude.{Plain, FaultCounts, IsCaused, last_counts, Entry}
 use Rattle.store_core.specs.Prelude.{Opening, AreRising}
 use Rattle.script_lang.specs.Prelude.{ReplyLine}

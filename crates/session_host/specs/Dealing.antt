@@ -2,11 +2,8 @@
 use Rattle.std.specs.Prelude.{ℕ, ◌≡◌, ◌≤◌, ◌<◌, ◌+◌, ◌-◌, ◌%◌, ◌==◌, ◌∷◌, ◌++◌, cond, zero, suc, List, [], All, length, get_or, None, vec_capacity}
 use Rattle.locked_store.specs.Prelude.{World}
 use Rattle.callers.specs.declared.caller.Caller.{Caller}
-use Rattle.script_lang.specs.declared.replies.Replies.{Replies}
-use Rattle.script_lang.specs.declared.replies.ReplyForm.{ReplyForm}
-use Rattle.session_host.specs.declared.session.Session.{Session}
-use Rattle.session_host.specs.declared.worker.Worker.{Worker}
-use Rattle.session_host.specs.Workers.{HaveForm, HaveRun, numbers_of}
+use Rattle.script_lang.specs.{declared.replies.Replies.Replies, declared.replies.ReplyForm.ReplyForm}
+use Rattle.session_host.specs.{declared.session.Session.Session, declared.worker.Worker.Worker, Workers.HaveForm, Workers.HaveRun, Workers.numbers_of}
 
 -- the numbers from 17 - j to 16 whose remainder is this, the greatest first: those of a thread's sessions
 abbrev pub dealt : (workers remainder : ℕ) → ℕ → List ℕ

@@ -4,8 +4,7 @@ use Rattle.atomic_table.specs.Seated.{TableId}
 use Rattle.store_model.specs.Prelude.{Service, Entry}
 use Rattle.store_core.specs.declared.store.Opened.{Opened}
 use Rattle.locked_store.specs.Prelude.{IsStartOf, ToldBy, world_of}
-use Rattle.script_lang.specs.declared.script.ScriptLine.{ScriptLine}
-use Rattle.script_lang.specs.Prelude.{AreCalls, Turn, numbered, turns_from, turns_of}
+use Rattle.script_lang.specs.{declared.script.ScriptLine.ScriptLine, Prelude.AreCalls, Prelude.Turn, Prelude.numbered, Prelude.turns_from, Prelude.turns_of}
 use Rattle.session_host.specs.Sessions.{AreTurnsIn}
 use Rattle.disk_face.specs.declared.Disk as Disk
 use Rattle.driver_dispatch.specs.declared.devices.Devices as Devices

@@ -1,14 +1,11 @@
 -- What is printed of the answers to calls.
 use Rattle.std.specs.Prelude.{ℕ, ◌≡◌, ◌∷◌, ◌++◌, List, [], take, Result, Ok, Err}
-use Rattle.psa_status.specs.declared.Status.{Status}
-use Rattle.psa_status.specs.declared.Status.TheVariants.{Success}
-use Rattle.service_calls.specs.Answered.{AnswersReply}
-use Rattle.service_calls.specs.declared.output.Output.{Output}
+use Rattle.psa_status.specs.{declared.Status.Status, declared.Status.TheVariants.Success}
+use Rattle.service_calls.specs.{Answered.AnswersReply, declared.output.Output.Output}
 use Rattle.service_calls.specs.declared.output.Output.TheVariants as output
 use Rattle.store_model.specs.Call as model
 use Rattle.store_model.specs.Prelude.{Reply, buffer_after, done, given, output_bytes, refusal}
-use Rattle.script_lang.specs.Prelude.{AreKept, ReplyLine, id_given, next_line}
-use Rattle.script_lang.specs.declared.replies.Replies.{Replies}
+use Rattle.script_lang.specs.{Prelude.AreKept, Prelude.ReplyLine, Prelude.id_given, Prelude.next_line, declared.replies.Replies.Replies}
 
 -- what is printed of an answer, as a reply; bytes are those with which the output buffer then begins
 abbrev pub reply_of : Result Output Status → (out : List ℕ) → Reply

@@ -3,10 +3,7 @@ use Rattle.std.specs.Prelude.{ℕ, ◌≡◌, ◌⊎◌, ◌<◌, ◌+◌, List,
 use Rattle.turn_history.specs.Prelude.{entries_of}
 use Rattle.locked_store.specs.Prelude.{World}
 use Rattle.callers.specs.declared.caller.Caller.{Caller}
-use Rattle.script_lang.specs.declared.script.ScriptLine.{ScriptLine}
-use Rattle.script_lang.specs.Prelude.{AreAllKept, ReplyLine}
-use Rattle.script_lang.specs.declared.replies.Replies.{Replies}
-use Rattle.script_lang.specs.declared.replies.ReplyForm.{ReplyForm}
+use Rattle.script_lang.specs.{declared.script.ScriptLine.ScriptLine, Prelude.AreAllKept, Prelude.ReplyLine, declared.replies.Replies.Replies, declared.replies.ReplyForm.ReplyForm}
 use Rattle.session_host.specs.Sessions.{HasMade, HasReplies, AreCalledIn}
 
 -- the replies of all sessions, in their order

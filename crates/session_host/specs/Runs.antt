@@ -3,20 +3,12 @@ use Rattle.std.specs.Prelude.{◌≡◌, ◌≤◌, ℕ, true, List, length, map
 use Rattle.atomic_table.specs.Seated.{TableId}
 use Rattle.psa_status.specs.Causes.{Rose}
 use Rattle.policy_rules.specs.declared.narrowing.Label.{Label}
-use Rattle.store_model.specs.Prelude.{Service, Entry, IsSoundStore}
-use Rattle.store_core.specs.declared.store.Opened.{Opened}
-use Rattle.store_core.specs.Prelude.{FindsKeysOf, opening_of}
+use Rattle.store_model.specs.{Prelude.Service, Prelude.Entry, Prelude.IsSoundStore, declared.limits.Limits.TheVariants.Whole}
+use Rattle.store_core.specs.{declared.opening.StoreFault.TheVariants.File, declared.store.Opened.Opened, Prelude.FindsKeysOf, Prelude.opening_of}
 use Rattle.locked_store.specs.Prelude.{IsNotOpened, IsStartOf, World, world_of}
 use Rattle.caller_service.specs.Closing.{IsLeft}
-use Rattle.script_lang.specs.declared.script.ScriptLine.{ScriptLine}
-use Rattle.script_lang.specs.Prelude.{AreAllKept, ReplyLine, Turn, lines_of, replies_to}
-use Rattle.script_lang.specs.declared.replies.Replies.{Replies}
-use Rattle.script_lang.specs.declared.replies.ReplyForm.{ReplyForm}
-use Rattle.session_host.specs.Bounds.{AreBounded, ArePlain, failures_marked}
-use Rattle.session_host.specs.Places.{failure_of}
-use Rattle.session_host.specs.Sessions.{AreTurnsIn}
-use Rattle.session_host.specs.declared.lines.Unanswered.{Unanswered}
-use Rattle.session_host.specs.declared.lines.Unanswered.TheVariants.{NotOpened, Memory}
+use Rattle.script_lang.specs.{declared.script.ScriptLine.ScriptLine, Prelude.AreAllKept, Prelude.ReplyLine, Prelude.Turn, Prelude.lines_of, Prelude.replies_to, declared.replies.Replies.Replies, declared.replies.ReplyForm.ReplyForm}
+use Rattle.session_host.specs.{Bounds.AreBounded, Bounds.ArePlain, Bounds.failures_marked, Places.failure_of, Sessions.AreTurnsIn, declared.lines.Unanswered.Unanswered, declared.lines.Unanswered.TheVariants.NotOpened, declared.lines.Unanswered.TheVariants.Memory}
 use Rattle.disk_face.specs.declared.Disk as Disk
 use Rattle.driver_dispatch.specs.declared.devices.Devices as Devices
 use Rattle.admission.specs.declared.rules.Admission as Admission
@@ -27,8 +19,8 @@ abbrev pub IsInLineOrder : List ScriptLine → List Entry → Type 0
 IsInLineOrder lines history = map (λ e. e.caller) history ≡ map (λ line. line.session) lines
 
 module _ {D A C : Type 0} (w : World D A C) where
-  -- The opening of a store from this disk, with these devices, rules of these labels and this seed. There is a start, and each is
-  -- sound. Where the disk tells its bytes, the keys of a start are those of its image. The disk's count of faults hasn't fallen.
+  -- The opening of a store from this disk, with these devices, rules of these labels and this seed, without limits by range. There
+  -- is a start, and each is sound. Where the disk tells its bytes, the keys of a start are those of its image. The disk's count of faults hasn't fallen.
   pub record IsOpening (disk : D) (devices : A) (named : List Label) (seed : List ℕ) : Type 0 where
     pub starts : (start : Service) × IsStartOf w start
     pub sound : (start : Service) → IsStartOf w start → IsSoundStore start.store
@@ -38,6 +30,7 @@ module _ {D A C : Type 0} (w : World D A C) where
     pub devices_are : w.opened.devices.value ≡ devices
     pub seed_is : w.opened.seed.value ≡ seed
     pub rules_are : w.rules.labels w.opened.rules.value ≡ named
+    pub limits_are : w.opened.limits.value ≡ Whole
 
 module _ {D A C : Type 0} (disks : Disk.Ghosts D) (elements : Devices.Ghosts A) (admits : Admission.Ghosts C) where
   -- A run: the store of this disk was opened under a lock, calls were made in one order, a history, and the store was closed. No
@@ -78,5 +71,5 @@ module _ {D A C : Type 0} (disks : Disk.Ghosts D) (elements : Devices.Ghosts A) 
   -- The lines have no replies for this reason: their store wasn't opened, and the devices come back as they were, or memory ran
   -- out after that.
   abbrev pub IsUnanswered : (disk : D) (devices : A) (named : List Label) (seed : List ℕ) (lines : List ScriptLine) → Unanswered → (disk_after : D) (devices_after : A) → Type 0
-  IsUnanswered disk devices named seed lines (NotOpened fault) disk_after devices_after = IsNotOpened disks disk disk_after fault × (devices_after ≡ devices)
+  IsUnanswered disk devices named seed lines (NotOpened fault) disk_after devices_after = IsNotOpened disks Whole disk disk_after (File fault) × (devices_after ≡ devices)
   IsUnanswered disk devices named seed lines Memory disk_after devices_after = IsBroken disk devices named seed lines disk_after devices_after

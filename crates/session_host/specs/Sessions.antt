@@ -1,20 +1,12 @@
 -- What is known of callers that make the calls of a script's lines.
 use Rattle.std.specs.Prelude.{ℕ, ◌≡◌, ◌⊎◌, ◌≤◌, ◌*◌, List, [], ◌∷◌, ◌++◌, All, length, map}
-use Rattle.turn_history.specs.declared.pass.View.{View}
-use Rattle.turn_history.specs.Prelude.{entries_of, StartsWith}
+use Rattle.turn_history.specs.{declared.pass.View.View, Prelude.entries_of, Prelude.StartsWith}
 use Rattle.store_model.specs.Prelude.{Reply, FaultMark, Service, Request, Entry}
 use Rattle.store_core.specs.declared.store.Opened.{Opened}
-use Rattle.callers.specs.Called.{IsCalled, KnowsReply}
-use Rattle.callers.specs.Failures.{failure_marked, failure_told}
-use Rattle.callers.specs.Ready.{IsReady}
+use Rattle.callers.specs.{Called.IsCalled, Called.KnowsReply, Failures.failure_marked, Failures.failure_told, Ready.IsReady, declared.caller.Caller.Caller}
 use Rattle.locked_store.specs.Prelude.{World, IsStartOf}
-use Rattle.callers.specs.declared.caller.Caller.{Caller}
-use Rattle.script_lang.specs.declared.script.ScriptLine.{ScriptLine}
-use Rattle.script_lang.specs.Prelude.{AreCalls, AreKept, ReplyLine, lines_of, numbered, Turn, id_given}
-use Rattle.script_lang.specs.declared.replies.Replies.{Replies}
-use Rattle.session_host.specs.declared.session.Session.{Session}
-use Rattle.session_host.specs.Places.{of_calls, ranked_call}
-use Rattle.session_host.specs.Replying.{ArePrintedAlike}
+use Rattle.script_lang.specs.{declared.script.ScriptLine.ScriptLine, Prelude.AreCalls, Prelude.AreKept, Prelude.ReplyLine, Prelude.lines_of, Prelude.numbered, Prelude.Turn, Prelude.id_given, declared.replies.Replies.Replies}
+use Rattle.session_host.specs.{declared.session.Session.Session, Places.of_calls, Places.ranked_call, Replying.ArePrintedAlike}
 
 -- the calls of these lines are among a history's, in this order
 abbrev pub AreCalledIn : List ScriptLine → List Entry → Type 0

@@ -3,11 +3,8 @@ use Rattle.std.specs.Prelude.{ℕ, ◌≡◌, ◌≢◌, ◌≤◌, ◌<◌, tru
 use Rattle.turn_history.specs.Prelude.{entries_of, StartsWith}
 use Rattle.callers.specs.Ready.{IsReady}
 use Rattle.locked_store.specs.Prelude.{World}
-use Rattle.script_lang.specs.declared.replies.ReplyForm.{ReplyForm}
-use Rattle.script_lang.specs.declared.script.ScriptLine.{ScriptLine}
-use Rattle.session_host.specs.declared.session.Session.{Session}
-use Rattle.session_host.specs.declared.worker.Worker.{Worker}
-use Rattle.session_host.specs.Sessions.{HasAnswered, HasMade, AreCalledIn}
+use Rattle.script_lang.specs.{declared.replies.ReplyForm.ReplyForm, declared.script.ScriptLine.ScriptLine}
+use Rattle.session_host.specs.{declared.session.Session.Session, declared.worker.Worker.Worker, Sessions.HasAnswered, Sessions.HasMade, Sessions.AreCalledIn}
 
 -- one element of a list has changed so, and no other
 pub record ChangesAt {X : Type 0} (place : ℕ) (R : X → X → Type 0) (old new : List X) : Type 0 where

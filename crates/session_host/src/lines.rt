@@ -16,7 +16,8 @@ use script_lang::{Replies, ReplyForm, ScriptLine};
 use std::alloc::Global;
 use std::sync::Wait;
 use std::thread::Threads;
-use store_core::Unopened;
+use store_core::StoreFault;
+use store_model::Limits;
 
 /// How much the calls of one session may count together: the most that a service grants.
 const BUDGET: u64 = 1 << 48;
@@ -59,21 +60,20 @@ pub fn answer_lines<D: Disk + Send, A: Devices, C: Admission, R: Threads + Wait 
         (λ replies. AreAnswers D.Disk A.Devices C.Admission disk devices (C.labels rules) seed.now workers lines.now form replies.items result.disk result.devices)
         (λ why. IsUnanswered D.Disk A.Devices C.Admission disk devices (C.labels rules) seed.now lines.now why result.disk result.devices) }
 {
+    let limits = Limits::Whole;
     let (service, mut callers) = match Service::open(
-        alloc, disk, devices, rules, seed, BUDGET, NoGate,
+        alloc, disk, devices, rules, limits, seed, BUDGET, NoGate,
     ) {
         Ok(opened) => opened,
-        Err(
-            Unopened {
-                disk,
-                devices,
-                fault,
-            },
-        ) => {
+        Err(unopened) => {
+            // no range has a limit of its own
+            let StoreFault::File(fault) = unopened.fault else {
+                unreachable!()
+            };
             return Run {
                 replies: Err(Unanswered::NotOpened(fault)),
-                disk,
-                devices,
+                disk: unopened.disk,
+                devices: unopened.devices,
             };
         }
     };

@@ -1,5 +1,5 @@
 // The sessions that one thread runs.
-ghost use Rattle.std.specs.Prelude.{◌≡◌, ◌≢◌, ◌⊎◌, ◌≤◌, ◌<◌, ◌+◌, ◌*◌, ◌++◌, ◌∷◌, [], ℕ, List, All, IfSome, IfNone, MatchResult, get_or, length, vec_capacity};
+ghost use Rattle.std.specs.{Prelude.◌≡◌, Prelude.◌≢◌, Prelude.◌⊎◌, Prelude.◌≤◌, Prelude.◌<◌, Prelude.◌+◌, Prelude.◌*◌, Prelude.◌++◌, Prelude.◌∷◌, Prelude.[], Prelude.ℕ, Prelude.List, Prelude.All, Prelude.IfSome, Prelude.IfNone, Prelude.MatchResult, Prelude.get_or, Prelude.length, Prelude.vec_capacity, Option.option_to_list};
 ghost use Rattle.turn_history.specs.Prelude.{entries_of, StartsWith, IsIdle, watcher};
 ghost use Rattle.callers.specs.{Called.Legal, Ready.IsReady};
 ghost use Rattle.locked_store.specs.Prelude.{world};
@@ -7,7 +7,6 @@ ghost use Rattle.script_lang.specs.declared.replies.ReplyForm as reply_form;
 ghost use Rattle.script_lang.specs.declared.script.ScriptLine as script_line;
 ghost use Rattle.session_host.specs.declared.session.Session as session;
 ghost use Rattle.session_host.specs.{Sessions.HasMade, Workers.ChangesAt, Workers.HasLearned, Workers.HasSeated, Workers.HasWorked, Workers.HaveForm, Workers.HaveRun, Workers.numbers_of};
-ghost use Rattle.std.specs.Option.{option_to_list};
 
 use crate::session::Session;
 use admission::Admission;

@@ -1,7 +1,6 @@
 -- What a cipher writes to a buffer.
-use Rattle.std.proofs.Common.{Err, List, None, Ok, Option, Result, Some, [], ap, arith, drop, length, refl, replicate, subst, sym, take, ℕ, ◌++◌, ◌+◌, ◌-◌, ◌∙◌, ◌≡◌, ◌≤◌}
+use Rattle.std.proofs.{Common.Err, Common.List, Common.None, Common.Ok, Common.Option, Common.Result, Common.Some, Common.[], Common.ap, Common.arith, Common.drop, Common.length, Common.refl, Common.replicate, Common.subst, Common.sym, Common.take, Common.ℕ, Common.◌++◌, Common.◌+◌, Common.◌-◌, Common.◌∙◌, Common.◌≡◌, Common.◌≤◌, lemmas.Slice.drop-append-drop}
 use Rattle.single_part.proofs.Common.{AnswersOrSpoils, append-nil, buffer_after, buffer_bytes, deciphered, decrypt_rows, decrypted_reply, drop_all, enciphered, enciphered_length, encrypt_rows, first_row, given, iv_length, length-append, length-drop, length-take, Mode, plain_or_zeros, refusal, Reply, reply_unless, Status, take-append_seam, take-take, unless, unless-ok}
-use Rattle.std.proofs.lemmas.Slice.{drop-append-drop}
 
 -- a refusal of the table
 pub refused_or_spoilt : (o : Option Status) (reply : Reply) (r : Result ℕ Status) (s t : Status) → r ≡ Err s → s ≡ t → o ≡ Some t → AnswersOrSpoils r (reply_unless o reply)

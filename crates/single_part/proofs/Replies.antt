@@ -1,7 +1,6 @@
 -- What a call with an output buffer answers, by its table.
 use Rattle.std.proofs.Common.{Err, IfOk, List, None, Ok, Option, Result, Some, ap, length, refl, subst, sym, ℕ, ◌∙◌, ◌≡◌}
-use Rattle.single_part.proofs.Common.{AnswersLength, Computed, RandomStream, Reply, Status, buffer_after, computed_unless, drawn_from, given, reply_unless, result_err}
-use Rattle.single_part.proofs.Draws.{draws_none}
+use Rattle.single_part.proofs.{Common.AnswersLength, Common.Computed, Common.RandomStream, Common.Reply, Common.Status, Common.buffer_after, Common.computed_unless, Common.drawn_from, Common.given, Common.reply_unless, Common.result_err, Draws.draws_none}
 
 -- the length of the bytes, unless a row holds
 pub given_length : (r : Result ℕ Status) (o : Option Status) (bytes : List ℕ) → result_err r ≡ o → IfOk r (λ n. n ≡ length bytes) → AnswersLength r (reply_unless o (given bytes))

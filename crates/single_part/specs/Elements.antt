@@ -2,8 +2,7 @@
 use Rattle.std.specs.Prelude.{◌≡◌, Bool, true, false, ◌==◌}
 use Rattle.service_calls.specs.declared.store_calls.KeyedCall.{KeyedCall}
 use Rattle.service_calls.specs.declared.store_calls.KeyedCall.TheVariants as call
-use Rattle.secure_element_calls.specs.Calls.{ctr}
-use Rattle.secure_element_calls.specs.declared.calls.ElementCall.{ElementCall}
+use Rattle.secure_element_calls.specs.{Calls.ctr, declared.calls.ElementCall.ElementCall}
 use Rattle.secure_element_calls.specs.declared.calls.ElementCall.TheVariants as element
 
 -- MACs, and texts in CTR mode

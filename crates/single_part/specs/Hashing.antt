@@ -1,8 +1,7 @@
 -- Calls in one part without a key.
 use Rattle.std.specs.Prelude.{ℕ}
 use Rattle.store_model.specs.Prelude.{Reply, compared_reply, hash_reply}
-use Rattle.service_calls.specs.declared.store_calls.HashCall.{HashCall}
-use Rattle.service_calls.specs.declared.store_calls.HashCall.TheVariants.{Compute, Compare}
+use Rattle.service_calls.specs.{declared.store_calls.HashCall.HashCall, declared.store_calls.HashCall.TheVariants.Compute, declared.store_calls.HashCall.TheVariants.Compare}
 
 -- the reply of a hash
 abbrev pub hash_computed_by : HashCall → (room : ℕ) → Reply

@@ -3,9 +3,7 @@ use Rattle.std.specs.Prelude.{ℕ, List, length}
 use Rattle.psa_status.specs.Rows.{first_row}
 use Rattle.alg_encoding.specs.declared.algorithm.Alg.{Alg}
 use Rattle.store_model.specs.Prelude.{opened_reply, sealed_reply, Reply, decrypted_reply, encrypted, iv_length, mode_of, Random, mac_reply, verified_reply, Computed, given, replies, reply_unless, room_rows}
-use Rattle.key_policy.specs.declared.key_use.KeyUse.{KeyUse}
-use Rattle.key_policy.specs.declared.key_use.KeyUse.TheVariants.{Export}
-use Rattle.key_policy.specs.Uses.{used_for}
+use Rattle.key_policy.specs.{declared.key_use.KeyUse.KeyUse, declared.key_use.KeyUse.TheVariants.Export, Uses.used_for}
 use Rattle.service_calls.specs.declared.handle_calls.Purpose.TheVariants.{SignMac, VerifyMac, EncryptCipher, DecryptCipher, EncryptAead, DecryptAead}
 use Rattle.service_calls.specs.declared.store_calls.KeyedCall.{KeyedCall}
 use Rattle.service_calls.specs.declared.store_calls.KeyedCall.TheVariants as call

@@ -4,12 +4,8 @@ use Rattle.std.specs.FinMap as map
 use Rattle.psa_status.specs.declared.Status.TheVariants.{Success}
 use Rattle.store_model.specs.Prelude.{Store, is_opaque_key, Random, bytes_of_key, Outcome, computed_unless, replies, with_computed, step, Service, OnStore, id_read, may_change_keys}
 use Rattle.key_policy.specs.Uses.{use_refusal}
-use Rattle.service_calls.specs.Meanings.{model_hash_call, model_keyed_call}
-use Rattle.service_calls.specs.declared.store_calls.HashCall.{HashCall}
-use Rattle.service_calls.specs.declared.store_calls.KeyedCall.{KeyedCall}
-use Rattle.single_part.specs.Keyed.{computed_by, vector_length, wanted_by}
-use Rattle.single_part.specs.Elements.{is_of_element}
-use Rattle.single_part.specs.Hashing.{hash_computed_by}
+use Rattle.service_calls.specs.{Meanings.model_hash_call, Meanings.model_keyed_call, declared.store_calls.HashCall.HashCall, declared.store_calls.KeyedCall.KeyedCall}
+use Rattle.single_part.specs.{Keyed.computed_by, Keyed.vector_length, Keyed.wanted_by, Elements.is_of_element, Hashing.hash_computed_by}
 
 -- a call whose key the secure element doesn't hold, or doesn't compute with: the first refusal of the key's use, and else what is
 -- computed with its bytes

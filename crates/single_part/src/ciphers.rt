@@ -6,8 +6,7 @@ ghost use Rattle.random_streams.specs.RandomWords.{drawn_from, next_bytes};
 ghost use Rattle.store_model.specs.Prelude.{buffer_after, mode_of, iv_length, takes_whole_blocks, enciphered_length, is_ciphertext_length, encrypt_rows, decrypt_rows, encrypted, decrypted_reply};
 ghost use Rattle.service_calls.specs.Answers.{AnswersLength, AnswersOrSpoils};
 ghost use Rattle.alg_encoding.specs.declared.table.Class.TheVariants.{Cipher};
-ghost use Rattle.key_policy.specs.Modes.{model_mode};
-ghost use Rattle.key_policy.specs.Names.{IsOfClass};
+ghost use Rattle.key_policy.specs.{Modes.model_mode, Names.IsOfClass};
 
 use crate::modes::{decipher, encipher_behind};
 use key_policy::{

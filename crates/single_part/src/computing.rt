@@ -3,8 +3,7 @@ ghost use Rattle.std.specs.Prelude.{◌≡◌, ◌≤◌, ◌+◌, ◌^◌, leng
 ghost use Rattle.random_streams.specs.RandomWords.{drawn_from, next_bytes};
 ghost use Rattle.key_policy.specs.Uses.{FitsUse};
 ghost use Rattle.store_model.specs.Prelude.{buffer_after};
-ghost use Rattle.service_calls.specs.Answered.{AnswersReply};
-ghost use Rattle.service_calls.specs.Answers.{AnswersLength};
+ghost use Rattle.service_calls.specs.{Answered.AnswersReply, Answers.AnswersLength};
 ghost use Rattle.single_part.specs.Keyed.{computed_by, exported_reply, wanted_by};
 
 use crate::aeads::{aead_decrypt, aead_encrypt};

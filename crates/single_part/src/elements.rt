@@ -1,12 +1,8 @@
 // Calls in one part that the secure element computes.
-ghost use Rattle.std.specs.Prelude.{◌≡◌, ◌&&◌, ℕ, true, IfSome, MatchResult, is_some};
-ghost use Rattle.std.specs.Result.{is_ok};
+ghost use Rattle.std.specs.{Prelude.◌≡◌, Prelude.◌&&◌, Prelude.ℕ, Prelude.true, Prelude.IfSome, Prelude.MatchResult, Prelude.is_some, Result.is_ok};
 ghost use Rattle.store_model.specs.Prelude.{Reply};
-ghost use Rattle.service_calls.specs.Answered.{AnswersReply};
-ghost use Rattle.service_calls.specs.Meanings.{model_keyed_call};
-ghost use Rattle.secure_element_calls.specs.Answers.{AnswersCall, not_computed_status};
-ghost use Rattle.secure_element_calls.specs.Calls.{model_call};
-ghost use Rattle.secure_element_calls.specs.Replies.{HasDrawn};
+ghost use Rattle.service_calls.specs.{Answered.AnswersReply, Meanings.model_keyed_call};
+ghost use Rattle.secure_element_calls.specs.{Answers.AnswersCall, Answers.not_computed_status, Calls.model_call, Replies.HasDrawn};
 ghost use Rattle.single_part.specs.Elements.{IsElementCall, has_vector, is_of_element, takes_vector};
 
 use crate::computation::Computation;

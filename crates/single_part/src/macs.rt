@@ -1,10 +1,9 @@
 // MACs of a whole message.
 ghost use Rattle.std.specs.Prelude.{◌≡◌, ◌≤◌, ℕ, true, length, take};
 ghost use Rattle.crypto_specs.specs.Prelude.{IsKey, aes_encrypt, cmac};
-ghost use Rattle.alg_encoding.specs.Encoding.{base_of};
+ghost use Rattle.alg_encoding.specs.{Encoding.base_of, declared.table.Class.TheVariants.Mac};
 ghost use Rattle.store_model.specs.Prelude.{buffer_after, cmac_base, mac_of, mac_reply, verified_reply};
 ghost use Rattle.service_calls.specs.Answers.{AnswersLength, plain_reply};
-ghost use Rattle.alg_encoding.specs.declared.table.Class.TheVariants.{Mac};
 ghost use Rattle.key_policy.specs.Names.{IsOfClass, NamesMac, is_cmac, whole_length, whole_mac_by};
 
 use cmac_ops::cmac;

@@ -1,7 +1,6 @@
 -- The changes of a slot's state.
 use Rattle.std.specs.Prelude.{ℕ, Bool, true, false, ◌==◌, nat_lt}
-use Rattle.slot_states.specs.declared.SlotState.{SlotState}
-use Rattle.slot_states.specs.declared.SlotState.TheVariants.{Empty, Filling, Full, Pending}
+use Rattle.slot_states.specs.{declared.SlotState.SlotState, declared.SlotState.TheVariants.Empty, declared.SlotState.TheVariants.Filling, declared.SlotState.TheVariants.Full, declared.SlotState.TheVariants.Pending}
 
 -- Whether a slot that so many read may change from a state to another. A reservation makes an empty slot wait for its key;
 -- the end of the creation makes it full, and a creation that is given up makes it empty. Destruction makes a full slot

@@ -1,7 +1,6 @@
 -- The row in which a table keeps its full slots by their keys' identifiers.
 use Rattle.std.specs.Prelude.{◌≡◌, List, length}
-use Rattle.key_index.specs.Index.{IsIndexOf}
-use Rattle.key_index.specs.declared.index.Entry.{Entry}
+use Rattle.key_index.specs.{Index.IsIndexOf, declared.index.Entry.Entry}
 use Rattle.slot_table.specs.Slots.{Table, slot_at, holds_key, IsLawful}
 
 -- a table is lawful, and a row is its index: it has each full slot once, by its key's identifier, and no other

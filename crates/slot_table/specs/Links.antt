@@ -1,7 +1,6 @@
 -- The links between the slots of recency.
 use Rattle.std.specs.Prelude.{◌≡◌, ◌≤◌, ℕ, zero, suc, ◌==◌, if◌then◌else◌, List, [], ◌∷◌, length, slice_index_or, slice_set}
-use Rattle.slot_table.specs.declared.recency.Link.{Link}
-use Rattle.slot_table.specs.Slots.{times}
+use Rattle.slot_table.specs.{declared.recency.Link.Link, Slots.times}
 
 abbrev pub link_at : List Link → ℕ → Link
 link_at links i = slice_index_or links i (record { older = 0; newer = 0 })

@@ -2,9 +2,7 @@
 use Rattle.std.specs.Prelude.{◌≡◌, ℕ, ◌<◌, false, List, [], ◌∷◌, length, replicate, slice_index_or}
 use Rattle.slot_states.specs.declared.SlotState.TheVariants.{Empty}
 use Rattle.secret_bytes.specs.Buffer.{buffer_of}
-use Rattle.slot_table.specs.declared.place.Head.{Head}
-use Rattle.slot_table.specs.declared.place.Stored.{Stored}
-use Rattle.slot_table.specs.Slots.{Slot, no_attributes, is_empty_state}
+use Rattle.slot_table.specs.{declared.place.Head.Head, declared.place.Stored.Stored, Slots.Slot, Slots.no_attributes, Slots.is_empty_state}
 
 abbrev pub empty_head : Head
 empty_head = record { state = Empty }

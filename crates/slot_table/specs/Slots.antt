@@ -1,9 +1,7 @@
 -- The slots of the key store and the order in which they were used, and the law that both keep.
 use Rattle.std.specs.Prelude.{◌≡◌, ◌≤◌, ◌<◌, ℕ, ◌+◌, ◌==◌, Bool, true, false, ◌&&◌, if◌then◌else◌, List, [], ◌∷◌, length, slice_index_or, find, Some, ◌⊎◌}
-use Rattle.slot_states.specs.declared.SlotState.{SlotState}
-use Rattle.slot_states.specs.declared.SlotState.TheVariants.{Empty, Filling, Full, Pending}
-use Rattle.key_attributes.specs.declared.Attributes.{Attributes}
-use Rattle.key_attributes.specs.Checks.{persistence}
+use Rattle.slot_states.specs.{declared.SlotState.SlotState, declared.SlotState.TheVariants.Empty, declared.SlotState.TheVariants.Filling, declared.SlotState.TheVariants.Full, declared.SlotState.TheVariants.Pending}
+use Rattle.key_attributes.specs.{declared.Attributes.Attributes, Checks.persistence}
 use Rattle.secret_bytes.specs.Buffer.{Buffer, bytes_of, buffer_of}
 
 -- a slot: its state, how many read it, and its key, by creation number, attributes (with its identifier) and bytes

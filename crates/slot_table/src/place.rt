@@ -1,8 +1,7 @@
 //! One slot, in two parts: its state, and the key with its readers.
 ghost use Rattle.std.specs.Prelude.{◌≡◌, ◌<◌, ◌≤◌, ◌-◌, ◌+◌, ◌^◌, length, true, IfOk};
 ghost use Rattle.secret_bytes.specs.Buffer.{buffer_of};
-ghost use Rattle.slot_states.specs.Changes.{may_change};
-ghost use Rattle.slot_states.specs.declared.SlotState.TheVariants.{Empty};
+ghost use Rattle.slot_states.specs.{Changes.may_change, declared.SlotState.TheVariants.Empty};
 ghost use Rattle.slot_table.specs.{Slots.is_empty_state, Slots.is_full, Slots.is_pending, Slots.is_idle, Slots.is_last, Rows.empty_head, Rows.no_key, Rows.slot_of};
 
 use key_attributes::Attributes;

@@ -1,7 +1,6 @@
 //! The slots of a table, in two rows: their states, and the keys with their readers.
 ghost use Rattle.std.specs.Prelude.{◌≡◌, ◌<◌, ◌≤◌, ◌-◌, ◌+◌, ◌^◌, length, slice_set, replicate, true, IfOk, IfSome, MatchOption};
-ghost use Rattle.slot_states.specs.Changes.{may_change};
-ghost use Rattle.slot_states.specs.declared.SlotState.TheVariants.{Empty, Full};
+ghost use Rattle.slot_states.specs.{Changes.may_change, declared.SlotState.TheVariants.Empty, declared.SlotState.TheVariants.Full};
 ghost use Rattle.slot_table.specs.{Slots.empty_slot, Slots.slot_at, Slots.is_idle, Slots.is_last, Slots.NoneEmpty, Slots.IsEmptyAt, Slots.IsNoneEmptyBefore, Changes.full_slot, Changes.registered, Rows.no_key};
 
 use crate::place::{Head, Stored, is_idle, is_last};

@@ -1,6 +1,5 @@
 //! The table of slots.
-ghost use Rattle.std.specs.Prelude.{◌≡◌, ◌<◌, ◌≤◌, ◌-◌, ◌+◌, ◌^◌, ◌↔◌, [], ◌∷◌, ◌++◌, length, find, slice_set, replicate, true, false, IsTrue, IfOk, MatchOption};
-ghost use Rattle.std.specs.Bool.{OnTrue, OnFalse};
+ghost use Rattle.std.specs.{Prelude.◌≡◌, Prelude.◌<◌, Prelude.◌≤◌, Prelude.◌-◌, Prelude.◌+◌, Prelude.◌^◌, Prelude.◌↔◌, Prelude.[], Prelude.◌∷◌, Prelude.◌++◌, Prelude.length, Prelude.find, Prelude.slice_set, Prelude.replicate, Prelude.true, Prelude.false, Prelude.IsTrue, Prelude.IfOk, Prelude.MatchOption, Bool.OnTrue, Bool.OnFalse};
 ghost use Rattle.secret_bytes.specs.Buffer.{IsClear, bytes_of};
 ghost use Rattle.slot_states.specs.declared.SlotState.TheVariants.{Full};
 ghost use Rattle.slot_table.specs.{Slots.empty_slot, Slots.filling_slot, Slots.slot_at, Slots.is_full, Slots.holds_key, Slots.is_idle, Slots.NoKey, Slots.NoneEmpty, Slots.IsEmptyAt, Slots.CanReserve, Slots.IsNext, Slots.IsLawful, Changes.full_slot, Changes.registered, Changes.left, Changes.destroyed_slot, Changes.recency_without};

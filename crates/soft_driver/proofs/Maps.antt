@@ -1,9 +1,7 @@
 -- Maps of handles: what an insertion and a removal leave.
 use Rattle.std.proofs.Common.{Bool, None, Option, Some, ap, arith, cond, eq-eqb, false, is_some, refl, sym, true, ℕ, ◌+◌, ◌-◌, ◌==◌, ◌∙◌, ◌≡◌, ◌≤◌}
 use Rattle.soft_driver.proofs.Common.{nat_cmp_total, nat_tests}
-use Rattle.std.specs.Ordering.{nat_cmp}
-use Rattle.std.specs.Cmp.{unsigned_tied}
-use Rattle.std.specs.FinMap.{FinMap, get, insert, remove, len, get-insert, get-remove, len-insert, len-remove, same_map, nat_cmp-IsAntisymmetric}
+use Rattle.std.specs.{Ordering.nat_cmp, Cmp.unsigned_tied, FinMap.FinMap, FinMap.get, FinMap.insert, FinMap.remove, FinMap.len, FinMap.get-insert, FinMap.get-remove, FinMap.len-insert, FinMap.len-remove, FinMap.same_map, FinMap.nat_cmp-IsAntisymmetric}
 
 not_both : (q j k : ℕ) → (j ≡ k → ⊥) → (q == k) ≡ true → (q == j) ≡ true → ⊥
 not_both q j k other a b = other (let x : q ≡ k = grind (arith, nat_tests) in let y : q ≡ j = grind (arith, nat_tests) in sym y ∙ x)

@@ -2,14 +2,9 @@
 use Rattle.std.proofs.Common.{List, None, Option, Some, [], ap, arith, cond, drop, eq-eqb, false, get_or, length, ne_eqb, refl, rules, set, subst, suc, sym, take, zero, ℕ, ◌+◌, ◌-◌, ◌++◌, ◌<◌, ◌∙◌, ◌∷◌, ◌≡◌, ◌≤◌}
 use Rattle.soft_driver.proofs.Common.{HasHandleAt, Held, HeldKey, HeldKeys, IsGapFor, IsKeyRoom, IsSized, IsSomeKey, LacksHandle, Lies, held_key, key_held, keys_of, nat_tests, with_held_key, without_key}
 use Rattle.soft_driver.specs.Sizes.{is_room_full}
-use Rattle.std.specs.Prelude.{⊤, ◌≢◌}
-use Rattle.std.specs.List.{insert, remove}
-use Rattle.std.specs.List.Sorted.{IsNonDecreasingBy}
-use Rattle.std.specs.Ordering.{nat_cmp}
-use Rattle.std.proofs.lemmas.List.{append_assoc, drop-set, get_or_default, length-append, length-drop, length-take, set_at, take-set-le, take-take, take_all, take_at}
-use Rattle.std.proofs.lemmas.List.Elements.{All-cons, All-head, All-tail}
-use Rattle.std.proofs.lemmas.List.Edits.{length-insert, length-remove, get_or-insert_at, get_or-remove_below, get_or-remove_above}
-use Rattle.std.proofs.lemmas.List.Sorted.{All-permutation, IsPermutation-insert, IsPermutation-remove, IsNonDecreasingBy-insert}
+use Rattle.std.specs.{Prelude.⊤, Prelude.◌≢◌, List.insert, List.remove, List.Sorted.IsNonDecreasingBy, Ordering.nat_cmp}
+use Rattle.std.proofs.{lemmas.List.append_assoc, lemmas.List.drop-set, lemmas.List.get_or_default, lemmas.List.length-append, lemmas.List.length-drop, lemmas.List.length-take, lemmas.List.set_at, lemmas.List.take-set-le, lemmas.List.take-take, lemmas.List.take_all, lemmas.List.take_at, lemmas.List.Elements.All-cons, lemmas.List.Elements.All-head, lemmas.List.Elements.All-tail}
+use Rattle.std.proofs.{lemmas.List.Edits.length-insert, lemmas.List.Edits.length-remove, lemmas.List.Edits.get_or-insert_at, lemmas.List.Edits.get_or-remove_below, lemmas.List.Edits.get_or-remove_above, lemmas.List.Sorted.All-permutation, lemmas.List.Sorted.IsPermutation-insert, lemmas.List.Sorted.IsPermutation-remove, lemmas.List.Sorted.IsNonDecreasingBy-insert}
 use Rattle.std.specs.FinMap as finite
 use Rattle.soft_driver.proofs.Maps.{put, remove-insert, insert-insert, insert-remove, len_more, len_fewer, len_at_most, still_new, was_new}
 

@@ -1,9 +1,7 @@
 -- What a search among rising handles finds.
-use Rattle.std.proofs.Common.{Err, IfErr, IfOk, IsErr, List, Ok, Result, [], arith, length, refl, sym, ℕ}
+use Rattle.std.proofs.{Common.Err, Common.IfErr, Common.IfOk, Common.IsErr, Common.List, Common.Ok, Common.Result, Common.[], Common.arith, Common.length, Common.refl, Common.sym, Common.ℕ, lemmas.Cmp.ranked}
 use Rattle.soft_driver.proofs.Common.{HasHandleAt, Held, IsGapFor, LacksHandle, nat_tests}
-use Rattle.std.specs.List.Sorted.{IsBinarySearchResult, IsNonDecreasingBy, IsSearchInRange}
-use Rattle.std.specs.Ordering.{nat_cmp, ordering_index}
-use Rattle.std.proofs.lemmas.Cmp.{ranked}
+use Rattle.std.specs.{List.Sorted.IsBinarySearchResult, List.Sorted.IsNonDecreasingBy, List.Sorted.IsSearchInRange, Ordering.nat_cmp, Ordering.ordering_index}
 
 module _ (held : List Held) (rising : IsNonDecreasingBy (λ h. h.handle) held) (handle : ℕ) where
   rises : IsNonDecreasingBy (λ h. ordering_index (nat_cmp h.handle handle)) held

@@ -1,8 +1,6 @@
 -- A driver in memory: what it stands for, and what a call leaves.
-use Rattle.std.specs.Prelude.{ℕ, Bool, List, ◌||◌, if◌then◌else◌, refl}
-use Rattle.std.specs.Coded.{Coded, code_by, coded×, coded_ℕ, coded_list}
-use Rattle.outside_io.specs.Causes.{one_more}
-use Rattle.outside_io.specs.Forms.{must_fail}
+use Rattle.std.specs.{Prelude.ℕ, Prelude.Bool, Prelude.List, Prelude.◌||◌, Prelude.if◌then◌else◌, Prelude.refl, Coded.Coded, Coded.code_by, Coded.coded×, Coded.coded_ℕ, Coded.coded_list}
+use Rattle.outside_io.specs.{Causes.one_more, Forms.must_fail}
 use Rattle.driver_dispatch.specs.Held.{HeldKey, HeldKeys, held_code, no_keys, with_copy, with_held_key, without_key}
 use Rattle.soft_driver.specs.Sizes.{is_room_full}
 

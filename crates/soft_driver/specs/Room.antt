@@ -1,10 +1,8 @@
 -- The list of the keys that are held, as a map.
-use Rattle.std.specs.Prelude.{◌≡◌, ◌≢◌, ◌≤◌, ◌<◌, ℕ, List, All, length, map, replicate, slice_index_or, take}
-use Rattle.std.specs.List.Sorted.{IsNonDecreasingBy}
+use Rattle.std.specs.{Prelude.◌≡◌, Prelude.◌≢◌, Prelude.◌≤◌, Prelude.◌<◌, Prelude.ℕ, Prelude.List, Prelude.All, Prelude.length, Prelude.map, Prelude.replicate, Prelude.slice_index_or, Prelude.take, List.Sorted.IsNonDecreasingBy}
 use Rattle.std.specs.FinMap as finite
 use Rattle.driver_dispatch.specs.Held.{HeldKey, HeldKeys}
-use Rattle.soft_driver.specs.Sizes.{room, IsSized}
-use Rattle.soft_driver.specs.declared.held.Held.{Held}
+use Rattle.soft_driver.specs.{Sizes.room, Sizes.IsSized, declared.held.Held.Held}
 
 abbrev pub key_held : Held → HeldKey
 key_held h = record { key_type = h.key_type.0; bytes = take h.length h.buffer }

@@ -4,8 +4,7 @@ ghost use Rattle.psa_status.specs.Causes.{HasCause, one_more};
 ghost use Rattle.key_attributes.specs.Checks.{is_key_type, permits_size};
 ghost use Rattle.crypto_specs.specs.Prelude.{aes_encrypt, ecb_encrypt};
 ghost use Rattle.store_model.specs.Prelude.{mac_of, fits_type};
-ghost use Rattle.driver_dispatch.specs.Held.{with_copy, with_held_key, without_key};
-ghost use Rattle.driver_dispatch.specs.Calls.{Changes, CountsServed, HoldsHandle, IsMac, Lacks};
+ghost use Rattle.driver_dispatch.specs.{Held.with_copy, Held.with_held_key, Held.without_key, Calls.Changes, Calls.CountsServed, Calls.HoldsHandle, Calls.IsMac, Calls.Lacks};
 ghost use Rattle.soft_driver.specs.Form.{after_computing, after_copy, after_destroy, after_import, brings_no_key, after_one_call, is_listed, new_form};
 
 use crate::computing::{encipher_blocks, fill_mac};

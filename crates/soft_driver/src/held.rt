@@ -1,8 +1,5 @@
 // The list of held keys, by rising handles.
-ghost use Rattle.std.specs.Prelude.{◌≡◌, ◌≤◌, ◌<◌, All, IfOk, IfErr, length, replicate, take};
-ghost use Rattle.std.specs.List.{remove};
-ghost use Rattle.std.specs.List.Sorted.{IsNonDecreasingBy};
-ghost use Rattle.std.specs.Vec.{vec_capacity};
+ghost use Rattle.std.specs.{Prelude.◌≡◌, Prelude.◌≤◌, Prelude.◌<◌, Prelude.All, Prelude.IfOk, Prelude.IfErr, Prelude.length, Prelude.replicate, Prelude.take, List.remove, List.Sorted.IsNonDecreasingBy, Vec.vec_capacity};
 ghost use Rattle.soft_driver.specs.Room.{HasHandleAt, HasClearBuffer, IsGapFor, LacksHandle};
 
 use key_attributes::KeyType;

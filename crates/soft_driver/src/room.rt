@@ -1,10 +1,8 @@
 // The keys that are held, in buffers that are reserved at the start.
 ghost use Rattle.std.specs.Prelude.{◌≡◌, ⊤, All, false, None, IfOk, IsTrue, length};
 ghost use Rattle.key_attributes.specs.Checks.{permits_size};
-ghost use Rattle.driver_dispatch.specs.Held.{HeldKey, held_key, no_keys, with_copy, with_held_key, without_key};
-ghost use Rattle.driver_dispatch.specs.Calls.{IsSomeKey};
-ghost use Rattle.soft_driver.specs.Room.{HasClearBuffer};
-ghost use Rattle.soft_driver.specs.Sizes.{IsSized, is_room_full};
+ghost use Rattle.driver_dispatch.specs.{Held.HeldKey, Held.held_key, Held.no_keys, Held.with_copy, Held.with_held_key, Held.without_key, Calls.IsSomeKey};
+ghost use Rattle.soft_driver.specs.{Room.HasClearBuffer, Sizes.IsSized, Sizes.is_room_full};
 
 use crate::held::{Held, clear, gap_for, held_index, let_key_go, write_front};
 use key_attributes::KeyType;

@@ -8,8 +8,7 @@ use Rattle.slot_table.specs.Lent.{Reading}
 use Rattle.key_slots.specs.Holdings.{Pairs, Gains, AreHoldings}
 use Rattle.store_model.specs.Store as model
 use Rattle.store_model.specs.Prelude.{Import, GetAttributes, Export, created_unless, FaultMark, Plain, Service, Request, OnStore, Entry, replay}
-use Rattle.store_core.specs.declared.store.Store.{Store}
-use Rattle.store_core.specs.Prelude.{AddsAs, Gives, HasOut, IsEntry, Reads, ReadsAndGives, Stands, Takes, Creates, HasOutBeside, IsCreating, RecordsStated, mark_of}
+use Rattle.store_core.specs.{declared.store.Store.Store, Prelude.AddsAs, Prelude.Gives, Prelude.HasOut, Prelude.IsEntry, Prelude.Reads, Prelude.ReadsAndGives, Prelude.Stands, Prelude.Takes, Prelude.Creates, Prelude.HasOutBeside, Prelude.IsCreating, Prelude.RecordsStated, Prelude.mark_of}
 use Rattle.store_core.proofs.Histories.{quiet_leaves}
 use Rattle.store_bench.specs.Keeping.{GivesLease, StandsForSomeHistory, StaysOut, first_has}
 use Rattle.store_bench.proofs.Outs.{are_one, hold, lease_beside, filling_alone, first_gains, is_out}

@@ -1,7 +1,5 @@
 -- What callers have out of a store, with one pair more or less.
-use Rattle.std.proofs.Common.{Bool, List, [], ap, arith, cond, count_by, false, nat_lt, refl, replicate, true, ℕ, ◌+◌, ◌<◌, ◌==◌, ◌∙◌, ◌∷◌, ◌≡◌, ◌≤◌}
-use Rattle.std.proofs.lemmas.Bool.Decides.{nat_tests}
-use Rattle.std.proofs.lemmas.List.Sums.{sum_by-cons}
+use Rattle.std.proofs.{Common.Bool, Common.List, Common.[], Common.ap, Common.arith, Common.cond, Common.count_by, Common.false, Common.nat_lt, Common.refl, Common.replicate, Common.true, Common.ℕ, Common.◌+◌, Common.◌<◌, Common.◌==◌, Common.◌∙◌, Common.◌∷◌, Common.◌≡◌, Common.◌≤◌, lemmas.Bool.Decides.nat_tests, lemmas.List.Sums.sum_by-cons}
 use Rattle.std.proofs.lemmas.List.Elements.{All-cons, All-replicate}
 use Rattle.key_slots.specs.Holdings.{Pairs, Gains, AreHoldings, IsHolding, names, named, same}
 use Rattle.store_bench.specs.Keeping.{AreLeases, first_has, first_two_have}

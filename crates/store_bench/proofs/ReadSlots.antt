@@ -1,9 +1,7 @@
 -- What becomes of slots that are read, and of those that nobody reads.
-use Rattle.std.proofs.Common.{List, ap, arith, cond, refl, replicate, set, suc, zero, ℕ, ◌&&◌, ◌+◌, ◌-◌, ◌==◌, ◌∙◌, ◌≡◌}
-use Rattle.std.proofs.lemmas.List.{set-set, set-get_or}
+use Rattle.std.proofs.{Common.List, Common.ap, Common.arith, Common.cond, Common.refl, Common.replicate, Common.set, Common.suc, Common.zero, Common.ℕ, Common.◌&&◌, Common.◌+◌, Common.◌-◌, Common.◌==◌, Common.◌∙◌, Common.◌≡◌, lemmas.List.set-set, lemmas.List.set-get_or}
 use Rattle.slot_states.specs.declared.SlotState.TheVariants.{Full}
-use Rattle.slot_table.specs.Slots.{Slot, Table, slot_at, empty_slot, is_pending, IsNext, IsLawful}
-use Rattle.slot_table.specs.Changes.{registered, left}
+use Rattle.slot_table.specs.{Slots.Slot, Slots.Table, Slots.slot_at, Slots.empty_slot, Slots.is_pending, Slots.IsNext, Slots.IsLawful, Changes.registered, Changes.left}
 use Rattle.slot_table.proofs.AtSlots.{slot_at-set_same, slot_at-set_other, full_within, next_is_unread}
 use Rattle.store_bench.specs.Readers.{AllUnread, ReadStay}
 

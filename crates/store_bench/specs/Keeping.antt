@@ -2,8 +2,7 @@
 use Rattle.std.specs.Prelude.{◌≡◌, ◌≤◌, ◌==◌, ℕ, nat_lt, count_by, List, [], ◌∷◌, replicate}
 use Rattle.key_slots.specs.Holdings.{Pairs}
 use Rattle.secret_bytes.specs.Buffer.{IsClear}
-use Rattle.store_core.specs.declared.store.Store.{Store}
-use Rattle.store_core.specs.Prelude.{Opening, StandsFor}
+use Rattle.store_core.specs.{declared.store.Store.Store, Prelude.Opening, Prelude.StandsFor}
 use Rattle.store_model.specs.Prelude.{Service, Entry}
 use Rattle.disk_face.specs.declared.Disk as Disk
 use Rattle.driver_dispatch.specs.declared.devices.Devices as Devices

@@ -30,9 +30,9 @@ fn exportable(id: u32) -> Attributes {
 pub enum Task {
     /// Nothing more.
     Open,
-    /// Making 512 keys.
+    /// Making 2,048 keys.
     Fill,
-    /// Exporting the keys from 1 to 600, where they are there.
+    /// Exporting the keys from 1 to 2,100, where they are there.
     ExportAll,
     /// Exporting the last key so often, which is in memory after the first time.
     Look { turns: usize },
@@ -53,17 +53,17 @@ fn opened<A: Devices, C: Admission>(
 }
 
 fn fill<D: Disk, A: Devices, C: Admission>(store: &mut Keeper<D, A, C>) -> Option<u32> {
-    for id in 1..513u32 {
+    for id in 1..2049u32 {
         store.import(&exportable(id), &KEY)?.ok()?;
     }
-    Some(512)
+    Some(2048)
 }
 
 fn export_all<D: Disk, A: Devices, C: Admission>(store: &mut Keeper<D, A, C>) -> u32
-    ensures { result ≤ 600 }
+    ensures { result ≤ 2100 }
 {
     let mut exported = 0;
-    for id in 1..601u32 {
+    for id in 1..2101u32 {
         if store.gives(KeyId(id), &KEY) == Some(Ok(true)) {
             exported += 1;
         }
@@ -79,9 +79,9 @@ fn export<D: Disk, A: Devices, C: Admission>(
 ) -> Option<u32> {
     'exports: for _ in 0..turns {
         if purged {
-            store.purge(KeyId(512))?.ok()?;
+            store.purge(KeyId(2048))?.ok()?;
         }
-        if !store.gives(KeyId(512), &KEY)?.ok()? {
+        if !store.gives(KeyId(2048), &KEY)?.ok()? {
             return None;
         }
     }
@@ -114,7 +114,7 @@ fn export_each<D: Disk, A: Devices, C: Admission>(
     first: u32,
     last: u32,
 ) -> Option<()>
-    requires few { last ≤ 512 }
+    requires few { last ≤ 2048 }
 {
     for id in first..last + 1 {
         if !store.gives(KeyId(id), &KEY)?.ok()? {
@@ -135,7 +135,7 @@ fn held_after<D: Disk, A: Devices, C: Admission>(
     last: u32,
     id: u32,
 ) -> Option<bool>
-    requires few { last ≤ 512 }
+    requires few { last ≤ 2048 }
 {
     export_each(store, first, last)?;
     Some(is_held(store, id))
@@ -157,7 +157,7 @@ fn are_held<D: Disk, A: Devices, C: Admission>(
     last: u32,
     held: bool,
 ) -> bool
-    requires few { last ≤ 512 }
+    requires few { last ≤ 2048 }
 {
     for id in first..last + 1 {
         if is_held(store, id) != held {
@@ -211,7 +211,7 @@ pub fn do_task(alloc: Global, disk: MemoryDisk, task: Task) -> Option<(u32, Memo
     done(alloc, disk, task, Drivers::new(Vec::new(alloc)), rules)
 }
 
-/// The disk of a store of 512 keys.
+/// The disk of a store of 2,048 keys.
 pub fn full_disk(alloc: Global) -> Option<MemoryDisk> {
     let disk = MemoryDisk::new(alloc, Vec::new(alloc), Fails::From(u64::MAX)).ok()?;
     let (_made, disk) = do_task(alloc, disk, Task::Fill)?;

@@ -11,7 +11,8 @@ use key_cells::OpenFault;
 use secret_bytes::Secret;
 use std::alloc::Global;
 use std::marker::Model;
-use store_core::{Store, Unopened};
+use store_core::{Store, StoreFault, Unopened};
+use store_model::Limits;
 
 /// A store of which nothing is out between the calls of its only user, the first of sixteen callers. A call answers `None`
 /// once there were so many that the store's contracts say nothing more of it.
@@ -51,10 +52,10 @@ impl<D: Disk, A: Devices, C: Admission> Keeper<D, A, C> {
             return Err(Unopened {
                 disk,
                 devices,
-                fault: OpenFault::Memory,
+                fault: StoreFault::File(OpenFault::Memory),
             });
         };
-        match Store::open(alloc, disk, devices, rules, &[0; 32]) {
+        match Store::open(alloc, disk, devices, rules, Limits::Whole, &[0; 32]) {
             Ok(store) => Ok(Keeper {
                 store,
                 spare: Some(spare),

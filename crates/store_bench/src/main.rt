@@ -1,8 +1,8 @@
 //! Figures of the key store and of its parts: it does one thing again and again, so that its time can be taken from outside.
-//! With a store of 512 keys it exports a key that is in memory or one that has to be read from the file first, or opens the
-//! store. It makes a call of a table of 384 keys; opens a full store file, makes 512 keys in a new one, or looks for one of
-//! 512 keys; runs an algorithm over a text of zeros, and prints the front of its last output; or updates an operation. With
-//! no words it prints what becomes of a full store, and digests a block once.
+//! With a store of 2,048 keys it exports a key that is in memory or one that has to be read from the file first, or opens the
+//! store. It makes a call of a table of 384 keys; opens a full store file, makes 2,048 keys in a new one, looks for one of
+//! 2,048 keys, or makes and destroys one more among so many; runs an algorithm over a text of zeros, and prints the front of
+//! its last output; or updates an operation. With no words it prints what becomes of a full store, and digests a block once.
 #![tactic(auto)]
 
 mod algorithms;
@@ -25,7 +25,7 @@ use std::process::ExitCode;
 use std::{env, io};
 
 const USAGE: &str =
-    "usage: store_bench [CALL TURNS | slots CALL TURNS | file CALL TURNS | NAME BYTES TURNS]
+    "usage: store_bench [CALL TURNS | slots CALL TURNS | file CALL TURNS | file change KEYS TURNS | NAME BYTES TURNS]
 CALL of the store is look, load or open, of slots find, lease or oldest, and of file open, create or find.
 NAME is sha2, sha256, hmac, cmac, ecb, ecb_decryption, cbc, cbc_decryption, ctr, gcm, ccm or pbkdf2, or the update
 of an operation:
@@ -67,6 +67,11 @@ fn run(rt: &HostRuntime, words: &[&str]) -> io::Result<bool> {
         [] => Ok(store_turns::print_full(rt)? && run_job(rt, "sha256", "16", "1")?),
         [call, turns] => Ok(store_turns::run(rt.alloc(), call, turns).is_some()),
         ["slots", call, turns] => Ok(slot_turns::run(rt.alloc(), call, turns).is_some()),
+        ["file", "change", keys, turns] => Ok(store_file::change(
+            rt.alloc(),
+            keys,
+            turns,
+        ).is_some()),
         ["file", call, turns] => Ok(store_file::run(rt.alloc(), call, turns).is_some()),
         [name, bytes, turns] => run_job(rt, name, bytes, turns),
         _ => Ok(false),

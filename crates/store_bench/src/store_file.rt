@@ -1,5 +1,5 @@
 // A full store file over a disk in memory, with which one thing is done again and again.
-ghost use Rattle.std.specs.Prelude.{◌≡◌, length, IfSome};
+ghost use Rattle.std.specs.Prelude.{◌≡◌, ◌<◌, length, IfSome};
 ghost use Rattle.key_cells.specs.Prelude.{store_size};
 
 use crate::file_turns;
@@ -7,15 +7,33 @@ use crate::plain_disk::PlainDisk;
 use key_cells::Cells;
 use std::alloc::Global;
 
-// A full store.
-fn full_store(alloc: Global) -> Option<Cells<PlainDisk>>
+/// How many cells a store has.
+const CELLS: u32 = 2048;
+
+// A store of so many keys, of the identifiers from 1 on.
+fn store_of(alloc: Global, keys: u32) -> Option<Cells<PlainDisk>>
+    requires few { keys < 0x3fffffff }
     ensures { IfSome result (λ cells. length cells.disk.bytes.items ≡ store_size) }
 {
     let Ok(mut cells) = file_turns::new_store(alloc) else {
         return None;
     };
-    match file_turns::fill(&mut cells) {
+    match file_turns::fill(&mut cells, keys) {
         Ok(()) => Some(cells),
+        Err(_) => None,
+    }
+}
+
+/// Makes or destroys one key more so often in a store of so many keys. `None` where there is no room for it.
+pub fn change(alloc: Global, keys: &str, turns: &str) -> Option<usize> {
+    let keys: u32 = keys.parse().ok()?;
+    let turns: usize = turns.parse().ok()?;
+    if keys >= CELLS {
+        return None;
+    }
+    let mut cells = store_of(alloc, keys)?;
+    match file_turns::change(&mut cells, keys + 1, turns) {
+        Ok(()) => Some(cells.count()),
         Err(_) => None,
     }
 }
@@ -23,14 +41,14 @@ fn full_store(alloc: Global) -> Option<Cells<PlainDisk>>
 /// Does one thing so often with a full store. `None` where there is no such call, or it is refused.
 pub fn run(alloc: Global, call: &str, turns: &str) -> Option<usize> {
     let turns: usize = turns.parse().ok()?;
-    let mut cells = full_store(alloc)?;
+    let mut cells = store_of(alloc, CELLS)?;
     match call {
         "find" => file_turns::look(&cells, turns),
         "create" => {
             'creations: for _ in 0..turns {
-                cells = full_store(alloc)?;
+                cells = store_of(alloc, CELLS)?;
             }
-            cells.find(512)
+            cells.find(CELLS)
         }
         "open" => {
             'openings: for _ in 0..turns {
@@ -39,7 +57,7 @@ pub fn run(alloc: Global, call: &str, turns: &str) -> Option<usize> {
                     Err(_refused) => return None,
                 };
             }
-            cells.find(512)
+            cells.find(CELLS)
         }
         _ => None,
     }

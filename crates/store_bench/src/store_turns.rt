@@ -25,7 +25,7 @@ pub fn print_full(rt: &HostRuntime) -> io::Result<bool> {
     let Some((first, second)) = exports(rt.alloc()) else {
         return Ok(false);
     };
-    println!(rt; "exported {first} of 600, and {second} once more")?;
+    println!(rt; "exported {first} of 2100, and {second} once more")?;
     let Some(seen) = watch_full(rt.alloc()) else {
         return Ok(false);
     };

@@ -1,9 +1,6 @@
 -- A ranked turn that changes keys.
 use Rattle.store_core.proofs.Common.{[], AdmissionGhosts, after, Agrees, allowed_go_on, ap, AreHoldings, arith, cell_state, ChangesFreed, count_persistent, counted, counted_sound, Course, course_of, DevicesGhosts, DiskGhosts, doubt_after, durable_keys, Entry, false, FaultCounts, FaultMark, FitsCourse, FitsKeys, Free, go_on, HasFault, HasZeros, HaveFreed, Holds, HoldsKeys, inl, inr, is_destruction, is_persistent_key, is_some, IsCaused, IsDirectory, IsEntry, IsFreeSince, IsSoundStore, IsSure, IsTold, key_changed, KeyFile, KeySlots, last_counts, Leads, LeavesKeys, length-append, List, live_volatile, MayBeMarked, Model, None, opened, Opening, Option, outcome_of, Pairs, Plain, promise_goes_on, quiet, refl, replay, Service, slice_index, stands_fits, StandsFor, StandsForKeys, stays, Store, subst, sym, true, Within, ℕ, ⊎_elim, ⊤, ◌++◌, ◌+◌, ◌<◌, ◌∙◌, ◌∷◌, ◌≡◌, ◌≤◌, ◌⊎◌, cell_count}
-use Rattle.store_core.proofs.Histories.{replay_push, counts_push, told_before, course_service, course_push, quiet_doubt}
-use Rattle.store_core.proofs.Holding.{counts_of, same_device, same_directory, turned}
-use Rattle.store_core.proofs.Wiped.{shows_free}
-use Rattle.store_core.proofs.Freeing.{MovesFree, freed_push, frees, unmoved}
+use Rattle.store_core.proofs.{Histories.replay_push, Histories.counts_push, Histories.told_before, Histories.course_service, Histories.course_push, Histories.quiet_doubt, Holding.counts_of, Holding.same_device, Holding.same_directory, Holding.turned, Wiped.shows_free, Freeing.MovesFree, Freeing.freed_push, Freeing.frees, Freeing.unmoved}
 
 -- what is told of one disk is told of another that tells as much
 pub retold : (old new : Option (List ℕ)) (start : Service) (h : List Entry) → is_some new ≡ is_some old → IsTold new start h → IsTold old start h
@@ -13,6 +10,7 @@ retold old new start h same (inr none) = inr none
 -- a ranked turn ends, of an opening that found as many keys, under the same rules
 pub record IsRankedOn {D A C : Type 0} (old new : Store D A C) : Type 0 where
   pub rules : new.rules ≡ old.rules
+  pub limits : new.limits ≡ old.limits
   pub found : new.found ≡ old.found
   pub ranked : new.ranked ≡ old.ranked + 1
 
@@ -123,6 +121,7 @@ module _ {D A C : Type 0} (disks : DiskGhosts D) (elements : DevicesGhosts A) (a
           replayed = λ k. t.becomes (replay start h) (holds_before k) (s.replayed (know k)) ∙ ap (λ (x : Service). x.store) (sym (replay_push start h e));
           sound = t.sound;
           settings = ap (λ (x : Model). x.settings) t.counts ∙ s.settings;
+          limits_are = ap (λ (x : Model). x.settings.limits) t.counts ∙ (s.limits_are ∙ sym t.goes_on.limits);
           labels_are = ap (λ (x : Model). x.settings.labels) t.counts ∙ (s.labels_are ∙ sym (ap admits.labels t.goes_on.rules));
           locations_are = ap (λ (x : Model). x.settings.locations) t.counts ∙ (s.locations_are ∙ sym t.places);
           found = ap (λ (x : Model). x.found) t.counts ∙ (s.found ∙ sym t.goes_on.found);
@@ -181,7 +180,7 @@ module _ {D A C : Type 0} (disks : DiskGhosts D) (elements : DevicesGhosts A) (a
           becomes = λ service known at. ap counted at ∙ sym (counts service known);
           sound = counted_sound s.model s.sound;
           counts = refl;
-          goes_on = record { rules = refl; found = refl; ranked = refl };
+          goes_on = record { rules = refl; limits = refl; found = refl; ranked = refl };
           places = places;
           made = s.made;
           live = s.live;

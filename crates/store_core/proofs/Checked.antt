@@ -1,6 +1,7 @@
 -- What the table of creations has decided of a key that is to be made.
-use Rattle.store_core.proofs.Common.{Agrees, and_from, and_parts, ap, arith, attribute_rows, Attributes, bit_and, Bool, cell_state, CellState, checked, cond, count_persistent, creation_of_state, eq-eqb, eqb-true, false, false_from_ne_true, false≢true, filled, first_row, FitsRecord, full_within, has_id, has_secure_element, HasNoKey, holds_key, implied_usage, InvalidArgument, is_key_type, is_lifetime, is_opaque, is_open, is_some, is_volatile, IsDirectory, IsFull, IsKeyOf, IsSoundStore, IsStated, key_is_full, key_of_slot, length, List, location, low_id, lt-ltb, map_get, map_get-retain_keys, Model, nat_lt, nat_tests, ne_eqb, NoKey, None, none-some, none_holds, not, not-false, NotSupported, Ok, Open, or_cases, Pairs, permits_size, persistence, ranked, refl, retain_keys, size_rows, Slot, slot_at, Some, stated_id, subst, sym, true, unless, unless-ok, ℕ, ⊎_elim, ◌%◌, ◌&&◌, ◌*◌, ◌/◌, ◌<◌, ◌==◌, ◌^◌, ◌||◌, ◌∙◌, ◌≡◌, ◌≢◌, ◌≤◌, cell_count}
+use Rattle.store_core.proofs.Common.{Agrees, and_from, and_parts, ap, arith, attribute_rows, Attributes, bit_and, Bool, cell_state, CellState, checked, cond, count_persistent, creation_of_state, eq-eqb, eqb-true, false, false_from_ne_true, false≢true, filled, first_row, FitsRecord, full_within, has_id, has_secure_element, HasNoKey, holds_key, implied_usage, InvalidArgument, is_key_type, is_lifetime, is_opaque, is_open, is_some, is_volatile, IsDirectory, IsFull, IsKeyOf, IsSoundStore, IsStated, key_is_full, key_of_slot, length, List, location, low_id, lt-ltb, map_get, map_get-retain_keys, Model, nat_tests, ne_eqb, NoKey, None, none-some, none_holds, not, not-false, NotSupported, Ok, Open, or_cases, Pairs, permits_size, persistence, ranked, refl, retain_keys, size_rows, Slot, slot_at, Some, stated_id, subst, sym, true, unless, unless-ok, ℕ, ⊎_elim, ◌%◌, ◌&&◌, ◌*◌, ◌/◌, ◌<◌, ◌==◌, ◌^◌, ◌||◌, ◌∙◌, ◌≡◌, ◌≢◌, ◌≤◌, cell_count}
 use Rattle.std.specs.declared.cmp.Ordering.TheVariants.{Equal}
+use Rattle.store_model.specs.Prelude.{is_low}
 use Rattle.key_slots.proofs.Sums.{total-least, into_map}
 use Rattle.store_core.proofs.{Kept.key_of_cell, Destroyed.needs_element}
 
@@ -89,16 +90,13 @@ in_no_slot slots m all id sized agrees none i = false_from_ne_true (holds_key id
 
 -- A FULL DIRECTORY
 
-abbrev id_in : CellState → ℕ
+abbrev pub id_in : CellState → ℕ
 id_in (Open id number) = id
 id_in slot = 0
 
-opens_so : (slot : CellState) → is_open slot ≡ true → slot ≡ Open (id_in slot) (creation_of_state slot)
+pub opens_so : (slot : CellState) → is_open slot ≡ true → slot ≡ Open (id_in slot) (creation_of_state slot)
 opens_so (Open id number) is = refl
 opens_so slot is = absurd (false≢true is)
-
-abbrev is_low : ℕ → Bool
-is_low n = nat_lt n 0x40000000
 
 -- where each cell has a key there are as many persistent keys as cells
 pub full_counts : (slots : List CellState) (m : Model) → IsDirectory slots m → IsSoundStore m → IsFull slots → cell_count ≤ count_persistent m.keys

@@ -1,9 +1,6 @@
 -- What a copy records of its source.
 use Rattle.store_core.proofs.Common.{[], after_rules, after_verdict, ap, arith, as_stated, attribute_rows, Attributes, Bool, checked, cond, copy_attributes, eqb-true, Err, false, filled, first_row, has_secure_element, identified, IfOk, InvalidArgument, is_opaque, is_volatile, IsSoundKey, Key, Label, length, List, location, Model, names_ecb, narrowed, none_holds, not, not-false, Ok, ok_or, recorded_copy, recorded_of, refl, Result, room_for_key_rows, Some, source_rows, Status, subst, sym, then_ok, true, unless, unless-ok, ℕ, ◌&&◌, ◌*◌, ◌/◌, ◌==◌, ◌∙◌, ◌∷◌, ◌≡◌}
-use Rattle.policy_rules.specs.declared.narrowing.Label.TheVariants.{NoExport, NoCopy, NoEcb, Aes256}
-use Rattle.policy_rules.specs.declared.narrowing.Verdict.{Verdict}
-use Rattle.policy_rules.specs.declared.narrowing.Verdict.TheVariants.{Keep, Refuse}
-use Rattle.policy_rules.specs.Policy.{meet_of}
+use Rattle.policy_rules.specs.{declared.narrowing.Label.TheVariants.NoExport, declared.narrowing.Label.TheVariants.NoCopy, declared.narrowing.Label.TheVariants.NoEcb, declared.narrowing.Label.TheVariants.Aes256, declared.narrowing.Verdict.Verdict, declared.narrowing.Verdict.TheVariants.Keep, declared.narrowing.Verdict.TheVariants.Refuse, Policy.meet_of}
 
 -- THE LENGTH OF A KEY
 

@@ -1,11 +1,6 @@
 -- A ranked turn that destroys a key.
 use Rattle.store_core.proofs.Common.{[], AdmissionGhosts, Agrees, ap, arith, cell_state, CellState, creation_of_state, Destroy, destroyed_sound, DevicesGhosts, DiskGhosts, Doubt, doubt_by, durable_keys, Entry, false, FaultMark, Free, has_id, HasFault, holds_key, inl, is_destruction, is_persistent_key, is_some, is_volatile, IsEntry, IsPut, IsSoundStore, IsSure, kept, Key, key_changed, key_of_slot, KeyFile, Keys, KeySlots, Leads, length, List, map_get, MayBeMarked, Model, None, not, OnStore, Opening, option_map, Pairs, Plain, Puts, ranked_on, refl, Service, set, settled_states, slice_index, slice_set, Slot, slot_at, SlotHasKey, Some, StandsFor, StandsForKeys, stays, Store, Stored, stored, subst, sym, true, without_key, ℕ, ◌++◌, ◌+◌, ◌-◌, ◌/◌, ◌<◌, ◌^◌, ◌∙◌, ◌∷◌, ◌≡◌, ◌⊎◌, cell_count}
-use Rattle.store_core.proofs.Holding.{counts_of, same_device}
-use Rattle.store_core.proofs.Histories.{told_before}
-use Rattle.store_core.proofs.Kept.{key_of_cell}
-use Rattle.store_core.proofs.Changing.{leaves, turns_standing}
-use Rattle.store_core.proofs.Freeing.{MovesFree, unmoved}
-use Rattle.store_core.proofs.Removing.{gone, takes_out, without_kept, kept_here, kept_same, directory_emptied, directory_stays, device_stays, device_loses}
+use Rattle.store_core.proofs.{Holding.counts_of, Holding.same_device, Histories.told_before, Kept.key_of_cell, Changing.leaves, Changing.turns_standing, Freeing.MovesFree, Freeing.unmoved, Removing.gone, Removing.takes_out, Removing.without_kept, Removing.kept_here, Removing.kept_same, Removing.directory_emptied, Removing.directory_stays, Removing.device_stays, Removing.device_loses}
 use Rattle.store_core.proofs.Destroyed.{entry_removes, entry_stays, changes_it, doubt_here, opens_with, high_is_volatile, fewer_kept, as_many_live, as_many_kept, live_after}
 
 -- THE KEY OF A SLOT WHOSE IDENTIFIER CAN'T BE STATED
@@ -84,7 +79,7 @@ module _ {D A C : Type 0} (disks : DiskGhosts D) (elements : DevicesGhosts A) (a
         becomes = λ service known same. ap (λ (x : Model). gone x id) same ∙ sym (entry_removes e id call service key (ap (λ (x : Model). map_get x.keys id) (sym same) ∙ there));
         sound = destroyed_sound m id s.holds.sound;
         counts = refl;
-        goes_on = record { rules = refl; found = refl; ranked = refl };
+        goes_on = record { rules = refl; limits = refl; found = refl; ranked = refl };
         places = refl;
         made = s.holds.made;
         live = λ caller le. as_many_live m id key there s.holds.sound persistent caller ∙ s.holds.live caller le;
@@ -124,7 +119,7 @@ module _ {D A C : Type 0} (disks : DiskGhosts D) (elements : DevicesGhosts A) (a
         becomes = λ service known same. ap (λ (x : Model). gone x id) same ∙ sym (entry_removes e id call service key (ap (λ (x : Model). map_get x.keys id) (sym same) ∙ there));
         sound = destroyed_sound m id s.holds.sound;
         counts = refl;
-        goes_on = record { rules = refl; found = refl; ranked = refl };
+        goes_on = record { rules = refl; limits = refl; found = refl; ranked = refl };
         places = places;
         made = s.holds.made;
         live = live_after m id key there s.holds.sound volatile caller named old.live s.holds.live;

@@ -63,6 +63,7 @@ module _ {D A C : Type 0} (disks : DiskGhosts D) (elements : DevicesGhosts A) (a
       sound = s.sound;
       settings = s.settings;
       labels_are = s.labels_are;
+      limits_are = s.limits_are;
       locations_are = s.locations_are ∙ sym places;
       found = s.found;
       few = s.few;

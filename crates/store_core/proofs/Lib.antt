@@ -16,6 +16,7 @@ mod DestroyTurn
 mod Asked
 mod Added
 mod Checked
+mod Ranges
 mod Makes
 mod MakesKept
 mod MakesVolatile

@@ -1,9 +1,6 @@
 -- A key that was loaded from the file.
 use Rattle.store_core.proofs.Common.{[], AdmissionGhosts, Agrees, ap, arith, Attributes, Bool, Buffer, bytes-buffer_of, cell_state, cond, creation_of_state, DevicesGhosts, DiskGhosts, durable_keys, Entry, false, false≢true, full_slot, Gains, has_id, Holds, id_read, inl, inr, is_opaque, is_persistent_key, is_some, is_volatile_of, IsCaused, IsDirectory, IsKeyOf, IsTold, kept, Key, KeyFile, KeySlots, List, map_get, Model, nat_lt, NoKey, None, Opening, Option, option_and_then, Pairs, Puts, reads_persistent, refl, replay, Request, Service, Slot, SlotHasKey, Some, Store, Stored, stored, subst, sym, true, ℕ, ◌++◌, ◌<◌, ◌∙◌, ◌∷◌, ◌≡◌, cell_count}
-use Rattle.store_core.proofs.Histories.{reads_last, told_before}
-use Rattle.store_core.proofs.Holding.{IsReadOn, moved, goes_on}
-use Rattle.store_core.proofs.Kept.{HasCellKey, key_of_cell, is_persistent, local}
-use Rattle.store_core.proofs.Replaced.{replaced, same_count, put_here, sound_after, directory_after, device_after, agrees_after}
+use Rattle.store_core.proofs.{Histories.reads_last, Histories.told_before, Holding.IsReadOn, Holding.moved, Holding.goes_on, Kept.HasCellKey, Kept.key_of_cell, Kept.is_persistent, Kept.local, Replaced.replaced, Replaced.same_count, Replaced.put_here, Replaced.sound_after, Replaced.directory_after, Replaced.device_after, Replaced.agrees_after}
 
 -- a request reads a persistent key where that of its identifier is one
 pub reads_it : (service : Service) (caller : ℕ) (request : Request) (id : ℕ) (m : Model) → id_read service caller request ≡ Some id → m ≡ service.store →
@@ -107,6 +104,7 @@ module _ {D A C : Type 0} (disks : DiskGhosts D) (elements : DevicesGhosts A) (a
               sound = sound_after s.model id own.0 a bytes own.1 own.2 key named s.sound;
               settings = s.settings;
               labels_are = s.labels_are;
+              limits_are = s.limits_are;
               locations_are = s.locations_are;
               found = s.found;
               few = s.few;

@@ -2,14 +2,8 @@
 use Rattle.store_core.proofs.Common.{[], AdmissionGhosts, Agrees, ap, AreHoldings, arith, Attributes, Bool, bytes_of, CellState, cond, counted, Course, created, DevicesGhosts, DiskGhosts, Doubt, doubt_after, doubt_by, doubt_unmade, durable_keys, Entry, false, false≢true, FaultMark, FitsRecord, full_slot, has_secure_element, HasNoKey, is_opaque, is_persistent_key, is_some, is_volatile, IsAboutToCreate, IsEntry, IsFirstWithoutKey, IsFull, IsKeyOf, IsMaking, IsMaterial, IsPut, IsSince, IsSure, IsThereOrNew, kept, Key, key_changed, KeyFile, Keys, KeySlots, last_counts, Leads, length, List, map_get, MayBeKept, Model, new_id, new_key, NoKey, None, not, Open, Opening, Option, outcome_of, Pairs, Plain, Puts, recorded, refl, replay, Rose, serve, Service, set, settled_states, SlotHasKey, Some, StandsFor, StandsForKeys, Storage, Store, Stored, stored, subst, sym, Told, true, Writing, ℕ, ◌++◌, ◌+◌, ◌∙◌, ◌∷◌, ◌≡◌, ◌≤◌, cell_count}
 use Rattle.key_cells.specs.Contents as contents
 use Rattle.persistent_keys.specs.declared.file.MakeFault.TheVariants.{Disk}
-use Rattle.store_core.proofs.Holding.{same_device}
-use Rattle.store_core.proofs.Sure.{set_sure}
-use Rattle.store_core.proofs.Removing.{directory_settled}
-use Rattle.store_core.proofs.Added.{none_stated, few_kept, puts, is_new, named_as_stated, stated_here, local_fills, put_here, put_kept, persistent_kept, directory_placed, as_many_live, one_more_kept, made_same, device_same}
-use Rattle.store_core.proofs.Checked.{key_of_checked, kept_local, in_no_cell, in_no_slot, full_counts}
-use Rattle.store_core.proofs.Changing.{unmade}
-use Rattle.store_core.proofs.Freeing.{MovesFree}
-use Rattle.store_core.proofs.Makes.{IsMakingAt, makes, marked_counts, doubted, changes_new, rose_since}
+use Rattle.store_core.proofs.{Holding.same_device, Sure.set_sure, Removing.directory_settled, Added.none_stated, Added.few_kept, Added.puts, Added.is_new, Added.named_as_stated, Added.stated_here, Added.local_fills, Added.put_here, Added.put_kept, Added.persistent_kept, Added.directory_placed, Added.as_many_live, Added.one_more_kept, Added.made_same, Added.device_same, Changing.unmade}
+use Rattle.store_core.proofs.{Checked.key_of_checked, Checked.kept_local, Checked.in_no_cell, Checked.in_no_slot, Checked.full_counts, Freeing.MovesFree, Makes.IsMakingAt, Makes.makes, Makes.marked_counts, Makes.doubted, Makes.changes_new, Makes.rose_since}
 
 module _ {D A C : Type 0} {disks : DiskGhosts D} {elements : DevicesGhosts A} {admits : AdmissionGhosts C}
     {old : Store D A C} {caller : ℕ} {a : Attributes} {source : Option ℕ} {start : Service} {opening : Opening} {h : List Entry} {all : List Pairs} {e : Entry}
@@ -117,7 +111,7 @@ module _ {D A C : Type 0} {disks : DiskGhosts D} {elements : DevicesGhosts A} {a
       pub makes_kept : IsFiled → Agrees slots.table.slots after less →
           IsEntry disks elements admits with_kept Plain e → StandsFor disks elements admits with_kept start opening (h ++ e ∷ []) less
       makes_kept f agrees is = makes disks elements admits only_now old with_kept start opening h all less e caller a r.bytes r.holds first last ready_may making.keeps is_making holdings (record {
-        goes_on = record { rules = refl; found = refl; ranked = refl };
+        goes_on = record { rules = refl; limits = refl; found = refl; ranked = refl };
         places = refl;
         made = made_same m caller a r.bytes first last r.holds.sound ready_may persistent ∙ r.holds.made;
         live = λ c le. as_many_live m caller a r.bytes first last r.holds.sound ready_may persistent c ∙ r.holds.live c le;

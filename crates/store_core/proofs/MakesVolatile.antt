@@ -1,13 +1,8 @@
 -- A ranked turn that creates a volatile key, in memory or in the device.
 use Rattle.store_core.proofs.Common.{[], AdmissionGhosts, Agrees, ap, AreHoldings, arith, asks_device, Attributes, Buffer, bytes_of, cond, Course, created, DevicesGhosts, DiskGhosts, Doubt, doubt_after, durable_keys, Entry, false, FaultMark, first_volatile, full_slot, Hardware, has_element, has_secure_element, HeldKey, HeldKeys, HoldsHandle, HoldsKeys, identified, IfSome, inr, is_destruction, is_key_type, is_opaque, is_opaque_key, is_persistent_key, is_volatile, IsAboutToCreate, IsEntry, IsMaking, IsMaterial, IsSince, IsSomeKey, IsThereOrNew, Key, key_changed, KeySlots, Lacks, last_counts, Leads, length, List, map_get, MayBeKept, Model, new_id, new_key, NoKey, None, not, Opening, Option, option_map, Pairs, permits_size, Plain, Puts, refl, replay, Rose, serve, Service, slice_index, slice_set, SlotHasKey, Some, StandsFor, stays, Store, stored, subst, sym, Told, true, with_copy, with_held_key, with_key_or_same, ℕ, ⊤, ◌++◌, ◌+◌, ◌<◌, ◌^◌, ◌||◌, ◌∙◌, ◌∷◌, ◌≡◌, ◌≤◌, ◌⊎◌}
 use Rattle.driver_dispatch.specs.Held as held_keys
-use Rattle.store_core.proofs.Added.{none_here, puts, is_new, put_here, volatile_id, few_live, few_made, made_here, live_here, volatile_kept, as_many_kept, directory_same, device_same, device_gains, device_failed, local_fills, opaque_fills}
-use Rattle.store_core.proofs.Checked.{known_type, known_size, element_is, in_no_slot}
-use Rattle.store_core.proofs.Destroyed.{holds_some}
-use Rattle.store_core.proofs.Changing.{unmade}
-use Rattle.store_core.proofs.Freeing.{MovesFree, unmoved}
-use Rattle.store_core.proofs.Makes.{IsMakingAt, makes, marked_counts, doubted, changes_new, rose_since}
-use Rattle.store_core.proofs.MakesKept.{ready_may, in_buffer}
+use Rattle.store_core.proofs.{Added.none_here, Added.puts, Added.is_new, Added.put_here, Added.volatile_id, Added.few_live, Added.few_made, Added.made_here, Added.live_here, Added.volatile_kept, Added.as_many_kept, Added.directory_same, Added.device_same, Added.device_gains, Added.device_failed, Added.local_fills, Added.opaque_fills, Destroyed.holds_some, Changing.unmade}
+use Rattle.store_core.proofs.{Checked.known_type, Checked.known_size, Checked.element_is, Checked.in_no_slot, Freeing.MovesFree, Freeing.unmoved, Makes.IsMakingAt, Makes.makes, Makes.marked_counts, Makes.doubted, Makes.changes_new, Makes.rose_since, MakesKept.ready_may, MakesKept.in_buffer}
 
 module _ {D A C : Type 0} {disks : DiskGhosts D} {elements : DevicesGhosts A} {admits : AdmissionGhosts C}
     {old : Store D A C} {caller : ℕ} {a : Attributes} {source : Option ℕ} {start : Service} {opening : Opening} {h : List Entry} {all : List Pairs} {e : Entry}
@@ -148,7 +143,7 @@ module _ {D A C : Type 0} {disks : DiskGhosts D} {elements : DevicesGhosts A} {a
     pub makes_volatile : length old.live ≡ 17 → elements.locations devices ≡ elements.locations old.devices → HoldsKeys (elements.keys devices) after → Agrees slots.table.slots after less →
         IsEntry disks elements admits with_volatile Plain e → StandsFor disks elements admits with_volatile start opening (h ++ e ∷ []) less
     makes_volatile sized places device agrees is = makes disks elements admits only_now old with_volatile start opening h all less e caller a r.bytes r.holds first last may making.keeps is_making holdings (record {
-      goes_on = record { rules = refl; found = refl; ranked = refl };
+      goes_on = record { rules = refl; limits = refl; found = refl; ranked = refl };
       places = places;
       made = made_here m caller a r.bytes first last r.holds.sound may volatile old.made r.holds.made;
       live = live_here m caller a r.bytes first last r.holds.sound may volatile old.live sized r.holds.live;

@@ -1,6 +1,8 @@
 -- What an opening finds, as keys of the one-thread store.
-use Rattle.store_core.proofs.Common.{[], ap, AreFound, AreOpened, arith, Attributes, body, cell_state, CellState, cond, content_at, content_of, content_there, creation_of_state, drop, durable_keys, eqb-true, false≢true, Finds, found_in, Free, gate, get_or-replicate, has_id, HasKey, HoldsId, HoldsKey, IfSome, is_some, IsFoundIn, IsKeyOf, IsNamed, IsNumbered, IsPersistent, kept, Key, length, length-drop, length-take, List, map_get, None, Open, opened_gate, OpenedKey, Option, place, Present, refl, Settings, Shows, Shut, slice_get, Some, Sound, start_of, Stored, stored, subst, suc, sym, take, true, Unsure, ℕ, ◌+◌, ◌<◌, ◌∙◌, ◌∷◌, ◌≡◌, ◌≤◌, cell_count}
-use Rattle.key_cells.proofs.Bodies.{of_one_key}
+use Rattle.store_core.proofs.Common.{[], ap, AreFound, AreOpened, arith, Attributes, body, cell_state, CellState, cond, content_at, content_of, content_there, creation_of_state, drop, durable_keys, eqb-true, false≢true, Finds, found_in, Free, gate, get_or-replicate, has_id, HasKey, HoldsId, HoldsKey, IfSome, is_some, IsFoundIn, IsKeyOf, IsNamed, IsNumbered, IsPersistent, kept, Key, length, length-drop, length-take, List, map_get, None, Open, opened_gate, OpenedKey, Option, place, Present, refl, Settings, Shows, Shut, slice_get, Some, Sound, start_of, Stored, stored, subst, suc, sym, take, true, Unsure, ℕ, ⊎_elim, ◌+◌, ◌<◌, ◌∙◌, ◌∷◌, ◌≡◌, ◌≤◌, cell_count}
+use Rattle.key_cells.specs.{Opening.IsImageDirectory, Layout.cells_of}
+use Rattle.std.proofs.lemmas.Bool.{cases_lt}
+use Rattle.key_cells.proofs.{Bodies.of_one_key, CellsRead.content_within, Keeping.cells_most}
 use Rattle.store_core.proofs.{FoundMap.HasEachOnce, FoundMap.id_of, FoundMap.found_at, FoundMap.at_found, Kept.lasting, OpenCells.IsPlaced, OpenCells.HasCellKey, OpenCells.placed, OpenCells.has_own}
 
 -- THE CELLS OF THE IMAGE THAT WAS OPENED, AND OF WHAT IS READ AFTERWARDS
@@ -19,9 +21,14 @@ told_twice slots L (Some image) None tells found sound left P none some = absurd
 told_twice slots L (Some image) (Some read) tells found sound left P none some = some image read (record { found = found; sound = sound read left })
 
 pub record IsCellIn (image now : List ℕ) (c id : ℕ) : Type 0 where
+  pub within : c < cells_of image
   pub opened : gate c image ≡ opened_gate
   pub holds : HoldsId id (body c image)
   pub same : body c now ≡ body c image
+
+-- an open cell is one that the image has
+has_cell : (slots : List CellState) (image : List ℕ) (c id number : ℕ) → IsImageDirectory slots image → cell_state slots c ≡ Open id number → c < cells_of image
+has_cell slots image c id number found is = ⊎_elim (λ lt. lt) (λ past. let clash : Free ≡ Open id number = sym (found.beyond c past) ∙ is in absurd (cc)) (cases_lt c (cells_of image))
 
 pub cell_in : (slots : List CellState) (image now : List ℕ) → AreTold slots image now → (c id number : ℕ) → c < cell_count → cell_state slots c ≡ Open id number → IsCellIn image now c id
 cell_in slots [] now are c id number lt is =
@@ -29,11 +36,12 @@ cell_in slots [] now are c id number lt is =
     absurd (cc)
 cell_in slots (byte ∷ rest) now are c id number lt is =
     let image : List ℕ = byte ∷ rest in
-    let f : Finds (Open id number) (gate c image) (body c image) = subst (λ (s : CellState). Finds s (gate c image) (body c image)) is (are.found.each c lt) in
-    let there : content_at (found_in image) c ≡ Present (body c image) = content_there c image lt ∙ ap (λ (g : List ℕ). content_of g (body c image)) f.0 in
+    let within : c < cells_of image = has_cell slots image c id number are.found is in
+    let f : Finds (Open id number) (gate c image) (body c image) = subst (λ (s : CellState). Finds s (gate c image) (body c image)) is (are.found.each c within) in
+    let there : content_at (found_in image) c ≡ Present (body c image) = content_there c image lt ∙ content_within c image within ∙ ap (λ (g : List ℕ). content_of g (body c image)) f.0 in
     let shown : Shows (Open id number) (Present (body c image)) (gate c now) (body c now) =
     subst (λ x. Shows (Open id number) x (gate c now) (body c now)) there (subst (λ (s : CellState). Shows s (content_at (found_in image) c) (gate c now) (body c now)) is (are.sound.each c lt)) in
-    record { opened = f.0; holds = f.1; same = shown.1 }
+    record { within = within; opened = f.0; holds = f.1; same = shown.1 }
 
 -- some key of an identifier, for a disk that doesn't tell
 any_key : ℕ → OpenedKey
@@ -81,17 +89,18 @@ nothing_there c is =
 
 -- an open cell of the image is one of the directory
 pub record IsListed (slots : List CellState) (c : ℕ) : Type 0 where
+  pub within : c < cell_count
   pub id : ℕ
   pub number : ℕ
   pub is : cell_state slots c ≡ Open id number
 
-listed : (slots : List CellState) (image now : List ℕ) → AreTold slots image now → (c : ℕ) → c < cell_count → gate c image ≡ opened_gate → IsListed slots c
+listed : (slots : List CellState) (image now : List ℕ) → AreTold slots image now → (c : ℕ) → c < cells_of image → gate c image ≡ opened_gate → IsListed slots c
 listed slots [] now are c lt opened = absurd (nothing_there c opened)
 listed slots (byte ∷ rest) now are c lt opened = of (cell_state slots c) refl (are.found.each c lt)
   where
     of : (s : CellState) → cell_state slots c ≡ s → Finds s (gate c (byte ∷ rest)) (body c (byte ∷ rest)) → IsListed slots c
     of Free is f = absurd (f opened)
-    of (Open id number) is f = record { id = id; number = number; is = is }
+    of (Open id number) is f = record { within = omega (arith, lt, cells_most (byte ∷ rest)); id = id; number = number; is = is }
     of Shut is f = absurd f
     of Unsure is f = absurd f
 
@@ -106,8 +115,8 @@ module _ (slots : List CellState) (image now : List ℕ) (are : AreTold slots im
   key_found a bytes has =
       let c = has.0 in
       let l = listed slots image now are c has.1 has.2 in
-      let k = keys.each c l.id l.number has.1 l.is in
-      let holds : HoldsKey k.0.attributes k.0.bytes (body c image) = subst (λ (b : List ℕ). HoldsKey k.0.attributes k.0.bytes b) (cell_in slots image now are c l.id l.number has.1 l.is).same k.4 in
+      let k = keys.each c l.id l.number l.within l.is in
+      let holds : HoldsKey k.0.attributes k.0.bytes (body c image) = subst (λ (b : List ℕ). HoldsKey k.0.attributes k.0.bytes b) (cell_in slots image now are c l.id l.number l.within l.is).same k.4 in
       (l.number, k.1 ∙ ap (λ (x : OpenedKey). Some x) (same_key k.0.attributes a k.0.bytes bytes (of_one_key k.0.attributes a k.0.bytes bytes (body c image) holds has.3)))
 
   in_image : (n : ℕ) (key : OpenedKey) → (p : IsPlaced (Some now) slots n key) → HoldsKey key.attributes key.bytes (body p.at image)
@@ -116,7 +125,8 @@ module _ (slots : List CellState) (image now : List ℕ) (are : AreTold slots im
   pub found_key : (a : Attributes) (bytes : List ℕ) → (number : ℕ) × (slice_get found number ≡ Some (opened_key a bytes)) → HasKey a bytes image
   found_key a bytes at =
       let p = placed (Some now) slots found sized numbered_by keys at.0 (opened_key a bytes) at.1 in
-      (p.at, p.within, (cell_in slots image now are p.at (id_of (opened_key a bytes)) at.0 p.within p.slot).opened, in_image at.0 (opened_key a bytes) p)
+      let here = cell_in slots image now are p.at (id_of (opened_key a bytes)) at.0 p.within p.slot in
+      (p.at, here.within, here.opened, in_image at.0 (opened_key a bytes) p)
 
   -- THE DURABLE KEYS OF A START
 

@@ -1,5 +1,6 @@
 -- A store of which one key that is kept in the file has other attributes and bytes.
 use Rattle.store_core.proofs.Common.{Agrees, ap, Attributes, Bool, cases_eq, cell_state, CellState, cond, eq-eqb, eqb-true, false, false≢true, has_secure_element, HeldKeys, holds_its_key, holds_key, HoldsHandle, HoldsKeys, inl, inr, is_opaque, is_volatile, is_volatile_of, IsDirectory, IsGone, IsKeyOf, IsSoundKey, IsSoundStore, Key, KeyMap, len_kept-insert, List, map_get, map_insert, map_len, map_remove, Model, nat_cmp-IsAntisymmetric, nat_cmp_total, nat_lt, ne_eqb, NoKey, None, Open, Option, Pairs, put, refl, retain_keys, same_map, same_Some, Slot, slot_at, Some, subst, sym, taken, true, ℕ, ◌<◌, ◌==◌, ◌∙◌, ◌≡◌, ◌≢◌, ◌≤◌, ◌⊎◌, cell_count}
+use Rattle.store_model.specs.Prelude.{is_in_range, range_limit}
 use Rattle.store_core.proofs.Kept.{HasCellKey, lasting, local, kept_checked}
 
 -- as many keys are kept of the map
@@ -81,6 +82,7 @@ module _ (m : Model) (id : ℕ) (key : Key) (a : Attributes) (bytes : List ℕ) 
     made = s.made;
     live = λ c. subst (λ n. n ≤ 16) (sym (same_count (is_volatile_of c) m.keys id key loaded there)) (s.live c);
     persistent = subst (λ n. n ≤ cell_count) (sym (same_count (λ i. nat_lt i 0x40000000) m.keys id key loaded there)) s.persistent;
+    ranges = λ per range. subst (λ n. n ≤ range_limit) (sym (same_count (is_in_range range) m.keys id key loaded there)) (s.ranges per range);
     callers = s.callers;
   }
 

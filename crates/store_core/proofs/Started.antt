@@ -3,12 +3,10 @@ use Rattle.store_core.proofs.Common.{[], AdmissionGhosts, Agrees, ap, AreFound, 
 use Rattle.std.proofs.lemmas.List.Elements.{All-replicate}
 use Rattle.key_cells.proofs.Opened.{calm_none, refused_calm}
 use Rattle.persistent_keys.proofs.Founding.{found_stands}
-use Rattle.store_model.proofs.Starts.{store_starts}
-use Rattle.store_core.specs.declared.store.Opened.{Opened}
-use Rattle.store_core.proofs.FoundMap.{HasEachOnce, AreKept, id_of, numbered, found_at, at_found, are_found, counted}
-use Rattle.store_core.proofs.Kept.{lasting, local}
-use Rattle.store_core.proofs.OpenCells.{placed, are_kept, each_once, has_own, some_opened}
-use Rattle.store_core.proofs.Sure.{opened_sure}
+use Rattle.store_model.proofs.Starts.{all_counted, store_starts}
+use Rattle.store_model.specs.{declared.limits.Limits.Limits, Prelude.HaveRoom, Prelude.is_in_range, Prelude.is_low, Prelude.is_per_range}
+use Rattle.store_core.specs.{Limits.HasRoom, declared.store.Opened.Opened}
+use Rattle.store_core.proofs.{Ranges.range_counts, FoundMap.HasEachOnce, FoundMap.AreKept, FoundMap.id_of, FoundMap.numbered, FoundMap.found_at, FoundMap.at_found, FoundMap.are_found, FoundMap.counted, Kept.lasting, Kept.local, OpenCells.placed, OpenCells.are_kept, OpenCells.each_once, OpenCells.has_own, OpenCells.some_opened, Sure.opened_sure}
 use Rattle.store_core.proofs.Openings.{told_twice, cell_key, key_found, found_key, durable_found}
 
 zero_at : (n c : ℕ) → ◌≡◌ {A = ℕ} (slice_index_or (replicate n 0) c 0) 0
@@ -76,6 +74,19 @@ module _ (told : Option (List ℕ)) (slots : List CellState) (found : List Opene
       one = λ c other id number another lt lt' is is'. one id c other lt lt' (has_own (cell_state slots c) id number is) (has_own (cell_state slots other) id another is');
     }
 
+    low_key : (id : ℕ) (key : Key) → map_get first.keys id ≡ Some key → is_volatile key.attributes ≡ false → is_low id ≡ true
+    low_key id key at persistent = let f = found_at 0 found id key at in lt-ltb id 0x40000000 (omega (arith, low f.place f.from f.there, f.named))
+
+    lasting_key : (id : ℕ) (key : Key) → map_get first.keys id ≡ Some key → is_low id ≡ true → is_volatile key.attributes ≡ false
+    lasting_key id key at below =
+        let f = found_at 0 found id key at in
+        ap (λ (k : Key). is_volatile k.attributes) f.is ∙ lasting f.from.attributes f.from.bytes (kept.each f.place f.from f.there)
+
+    room_found : (limits : Limits) → limits ≡ settings.limits → HasRoom limits slots → HaveRoom settings.limits found
+    room_found limits are_limits room per range =
+        let few = room (ap is_per_range are_limits ∙ per) range in
+        omega (arith, few, range_counts slots first directory_starts low_key lasting_key range, all_counted first (is_in_range range) 0 found (are_found first found kept once))
+
     few_found : length found ≤ cell_count
     few_found = omega (arith, are.count, count_by-le-length is_open slots, sized)
 
@@ -100,6 +111,8 @@ module _ {D A C : Type 0} (disks : DiskGhosts D) (elements : DevicesGhosts A) (a
     pub saw_file : store.opened.file.value ≡ store.file
     pub saw_devices : store.opened.devices.value ≡ store.devices
     pub saw_rules : store.opened.rules.value ≡ store.rules
+    pub saw_limits : store.opened.limits.value ≡ store.limits
+    pub room : HasRoom store.limits store.file.cells.states
 
   module _ (first : D) (store : Store D A C) (new : IsNew first store) (reads : IfSome (disks.contents store.file.cells.disk) (disks.may_leave store.file.cells.disk)) where
     abbrev disk : D
@@ -115,8 +128,8 @@ module _ {D A C : Type 0} (disks : DiskGhosts D) (elements : DevicesGhosts A) (a
     sounds = some_weaker (disks.contents first) (λ image. StandsForContents disks disk slots (found_in image)) (λ image. (read : List ℕ) → disks.may_leave disk read → Sound slots (found_in image) read) (λ image s. s.each) new.file.stands
 
     -- there is a start
-    pub starts : (settings : Settings) → settings.seed ≡ store.opened.seed.value → settings.labels ≡ admits.labels store.rules → settings.locations ≡ elements.locations store.devices → (start : Service) × Start store.opened start
-    starts settings seed_is labels_are locations_are =
+    pub starts : (settings : Settings) → settings.seed ≡ store.opened.seed.value → settings.labels ≡ admits.labels store.rules → settings.locations ≡ elements.locations store.devices → settings.limits ≡ store.limits → (start : Service) × Start store.opened start
+    starts settings seed_is labels_are locations_are limits_are =
         let keys = some_opened (disks.contents disk) slots new.file.sized new.file.numbered (cell_key slots (disks.contents first) (disks.contents disk) (disks.may_leave disk) new.file.named new.file.tells new.file.found sounds reads) in (
           service_of (start_of settings keys.0),
           record {
@@ -126,6 +139,7 @@ module _ {D A C : Type 0} (disks : DiskGhosts D) (elements : DevicesGhosts A) (a
             seed_is = seed_is;
             labels_are = labels_are ∙ ap admits.labels (sym new.saw_rules);
             locations_are = locations_are ∙ ap elements.locations (sym new.saw_devices);
+            limits_are = limits_are ∙ sym new.saw_limits;
             keys = subst (λ (f : KeyFile D). AreOpened (disks.contents f.cells.disk) f.cells.states keys.0) (sym new.saw_file) keys.1;
           },
         )
@@ -200,10 +214,11 @@ module _ {D A C : Type 0} (disks : DiskGhosts D) (elements : DevicesGhosts A) (a
           holds = record {
             model = m;
             replayed = λ k. store_is;
-            sound = store_starts settings found (are_found m found kept once) few_keys;
+            sound = store_starts settings found (are_found m found kept once) few_keys (room_found (disks.contents disk) slots found settings kept once sized numbered_by new.file.one are store.limits (sym (s.limits_are ∙ new.saw_limits)) new.room);
             settings = ap (λ (x : Service). x.store.settings) (sym s.is);
             labels_are = s.labels_are ∙ ap admits.labels new.saw_rules;
             locations_are = s.locations_are ∙ ap elements.locations new.saw_devices;
+            limits_are = s.limits_are ∙ new.saw_limits;
             found = are.count ∙ sym new.found;
             few = omega (arith, new.found, count_by-le-length is_open slots, new.file.sized);
             calls = sym new.ranked;

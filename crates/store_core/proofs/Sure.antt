@@ -1,6 +1,7 @@
 -- Directories without a cell in doubt, and what is in the cells of their files.
-use Rattle.store_core.proofs.Common.{[], Absent, ap, arith, body, cell_state, CellState, closed, Content, content_at, DiskGhosts, Doubt, Doubtful, false≢true, Finds, Free, gate, get_or-map, get_or-replicate, HasKeyOrIsClosed, HasKeyOrZeros, HoldsKey, IfSome, inl, inr, is_some, IsDoubtedIn, IsFoundIn, IsSure, Keys, length, length-map, List, map-set, None, Open, opened_gate, Option, Present, refl, set, settled_state, settled_states, Shows, Shut, Some, StandsForKeys, Stored, stored, subst, sym, TellsCell, true, Unsure, zeros, ℕ, ◌<◌, ◌∙◌, ◌∷◌, ◌≡◌, ◌⊎◌, cell_count}
-use Rattle.std.proofs.lemmas.List.{ext_get_or}
+use Rattle.store_core.proofs.Common.{[], Absent, ap, arith, body, cell_state, CellState, closed, Content, content_at, DiskGhosts, Doubt, Doubtful, false≢true, Finds, Free, gate, get_or-map, get_or-replicate, HasKeyOrIsClosed, HasKeyOrZeros, HoldsKey, IfSome, inl, inr, is_some, IsDoubtedIn, IsFoundIn, IsSure, Keys, length, length-map, List, map-set, None, Open, opened_gate, Option, Present, refl, set, settled_state, settled_states, Shows, Shut, Some, StandsForKeys, Stored, stored, subst, sym, TellsCell, true, Unsure, zeros, ℕ, ⊎_elim, ◌<◌, ◌∙◌, ◌∷◌, ◌≡◌, ◌⊎◌, cell_count}
+use Rattle.key_cells.specs.Layout.{cells_of}
+use Rattle.std.proofs.{lemmas.Bool.cases_lt, lemmas.List.ext_get_or}
 use Rattle.persistent_keys.proofs.Filing.{settled_twice}
 use Rattle.store_core.proofs.Wiped.{shows_free}
 
@@ -21,7 +22,10 @@ all_settled slots settled = sym (ext_get_or Free slots (settled_states slots) (s
 
 found_sure : (image : List ℕ) (slots : List CellState) → length slots ≡ cell_count → IsFoundIn image slots → IsSure slots
 found_sure [] slots sized is = all_settled slots (λ c lt. let free = ap (λ (l : List CellState). cell_state l c) is ∙ get_or-replicate cell_count c Free Free (omega (arith, sized, lt)) in free ∙ sym (ap settled_state free))
-found_sure (byte ∷ rest) slots sized is = all_settled slots (λ c lt. found_cell (cell_state slots c) (gate c (byte ∷ rest)) (body c (byte ∷ rest)) (is.each c (omega (arith, sized, lt))))
+found_sure (byte ∷ rest) slots sized is = all_settled slots (λ c lt. ⊎_elim
+    (λ within. found_cell (cell_state slots c) (gate c (byte ∷ rest)) (body c (byte ∷ rest)) (is.each c within))
+    (λ past. let free = is.beyond c past in free ∙ sym (ap settled_state free))
+    (cases_lt c (cells_of (byte ∷ rest))))
 
 pub opened_sure : (told : Option (List ℕ)) (slots : List CellState) → length slots ≡ cell_count → IfSome told (λ image. IsFoundIn image slots) → is_some told ≡ true → IsSure slots
 opened_sure None slots sized found tells = absurd (false≢true tells)

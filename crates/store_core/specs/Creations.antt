@@ -4,27 +4,19 @@ use Rattle.driver_dispatch.specs.declared.devices.Devices as Devices
 use Rattle.admission.specs.declared.rules.Admission as Admission
 use Rattle.std.specs.Prelude.{◌≡◌, ◌<◌, ◌≤◌, ◌⊎◌, ◌+◌, ℕ, true, false, List, [], ◌∷◌, ◌++◌, length, Option, Some, None, Result, Ok, Err}
 use Rattle.std.specs.FinMap as map
-use Rattle.psa_status.specs.declared.Status.{Status}
-use Rattle.psa_status.specs.declared.Status.TheVariants.{InvalidHandle, StorageFailure, HardwareFailure}
+use Rattle.psa_status.specs.{declared.Status.Status, declared.Status.TheVariants.InvalidHandle, declared.Status.TheVariants.StorageFailure, declared.Status.TheVariants.HardwareFailure}
 use Rattle.key_attributes.specs.declared.Attributes.{Attributes}
 use Rattle.driver_dispatch.specs.Calls.{HoldsHandle}
 use Rattle.secret_bytes.specs.Buffer.{bytes_of}
 use Rattle.slot_table.specs.Slots as slots
 use Rattle.slot_table.specs.Lent as lent
-use Rattle.key_slots.specs.Holdings.{Pairs, Gains, AreHoldings, named}
-use Rattle.key_slots.specs.Standing.{Agrees, IsThereOrNew, Puts, SlotHasKey}
+use Rattle.key_slots.specs.{Holdings.Pairs, Holdings.Gains, Holdings.AreHoldings, Holdings.named, Standing.Agrees, Standing.IsThereOrNew, Standing.Puts, Standing.SlotHasKey}
 use Rattle.store_model.specs.Store as model
 use Rattle.store_model.specs.Prelude.{is_volatile, is_opaque, FaultMark, Plain, Storage, Hardware, Writing, recorded_of, created, created_unless, new_id, recorded_copy, HasNumber, Service, Copy, OnStore, plain_step, Entry, replay, FaultCounts, last_counts}
-use Rattle.store_core.specs.declared.store.Store.{Store}
-use Rattle.store_core.specs.declared.creating.Unkept.{Unkept}
+use Rattle.store_core.specs.{declared.store.Store.Store, declared.creating.Unkept.Unkept, declared.creating.NotMade.NotMade, declared.copying.NotCopied.NotCopied, Durability.is_destruction, Represents.HasModel, Represents.Told, Represents.Holds, Represents.Opening, Represents.StandsFor, Represents.IsEntry, Uses.status_of, Uses.mark_of, Uses.there_rows, Uses.IsRefused}
 use Rattle.store_core.specs.declared.creating.Unkept.TheVariants as unkept
-use Rattle.store_core.specs.declared.creating.NotMade.{NotMade}
 use Rattle.store_core.specs.declared.creating.NotMade.TheVariants as unmade
-use Rattle.store_core.specs.declared.copying.NotCopied.{NotCopied}
 use Rattle.store_core.specs.declared.copying.NotCopied.TheVariants as uncopied
-use Rattle.store_core.specs.Durability.{is_destruction}
-use Rattle.store_core.specs.Represents.{HasModel, Told, Holds, Opening, StandsFor, IsEntry}
-use Rattle.store_core.specs.Uses.{status_of, mark_of, there_rows, IsRefused}
 
 -- WHAT IS DECIDED
 

@@ -3,10 +3,7 @@ use Rattle.disk_face.specs.declared.Disk as Disk
 use Rattle.driver_dispatch.specs.declared.devices.Devices as Devices
 use Rattle.admission.specs.declared.rules.Admission as Admission
 use Rattle.std.specs.Prelude.{ℕ}
-use Rattle.store_core.specs.declared.store.Store.{Store}
-use Rattle.store_core.specs.declared.destroying.NotDestroyed.{NotDestroyed}
-use Rattle.store_core.specs.Represents.{Destroys}
-use Rattle.store_core.specs.Uses.{IsUndestroyed, mark_undestroyed}
+use Rattle.store_core.specs.{declared.store.Store.Store, declared.destroying.NotDestroyed.NotDestroyed, Represents.Destroys, Uses.IsUndestroyed, Uses.mark_undestroyed}
 
 module _ {D A C : Type 0} (disks : Disk.Ghosts D) (elements : Devices.Ghosts A) (admits : Admission.Ghosts C) (old new : Store D A C) where
   -- a ranked turn that was to destroy the key of an identifier, and why it didn't for sure

@@ -1,6 +1,5 @@
 -- What of a history a file keeps over a crash: the keys that are durable after it, and those in doubt.
-use Rattle.std.specs.Prelude.{ℕ, Bool, true, false, List, [], ◌∷◌, take, Option, Some, None, if◌then◌else◌}
-use Rattle.std.specs.Option.{option_map_or}
+use Rattle.std.specs.{Prelude.ℕ, Prelude.Bool, Prelude.true, Prelude.false, Prelude.List, Prelude.[], Prelude.◌∷◌, Prelude.take, Prelude.Option, Prelude.Some, Prelude.None, Prelude.if◌then◌else◌, Option.option_map_or}
 use Rattle.std.specs.FinMap as map
 use Rattle.disk_face.specs.Moments.{after_all, KeepsPromise}
 use Rattle.persistent_keys.specs.Files.{Stored, stored, Keys, Doubt, FitsKeys}

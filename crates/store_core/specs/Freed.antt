@@ -1,10 +1,7 @@
 -- Which cells of the file the destructions of a history have freed, and that these are zeros.
-use Rattle.std.specs.Prelude.{◌≡◌, ◌≢◌, ◌⊎◌, ◌<◌, ◌≤◌, ◌==◌, ℕ, Bool, true, false, cond, List, [], ◌∷◌}
-use Rattle.std.specs.List.{AllByRecursion}
+use Rattle.std.specs.{Prelude.◌≡◌, Prelude.◌≢◌, Prelude.◌⊎◌, Prelude.◌<◌, Prelude.◌≤◌, Prelude.◌==◌, Prelude.ℕ, Prelude.Bool, Prelude.true, Prelude.false, Prelude.cond, Prelude.List, Prelude.[], Prelude.◌∷◌, List.AllByRecursion}
 use Rattle.disk_face.specs.declared.Disk as Disk
-use Rattle.key_cells.specs.declared.state.CellState.{CellState}
-use Rattle.key_cells.specs.declared.state.CellState.TheVariants.{Free}
-use Rattle.key_cells.specs.Prelude.{HasZeros, cell_state, cell_count}
+use Rattle.key_cells.specs.{declared.state.CellState.CellState, declared.state.CellState.TheVariants.Free, Prelude.HasZeros, Prelude.cell_state, Prelude.cell_count}
 use Rattle.store_model.specs.Prelude.{FaultMark, Plain, Service, Entry, is_persistent_key, key_changed, outcome_of}
 use Rattle.store_core.specs.Durability.{is_destruction}
 

@@ -2,6 +2,7 @@ pub mod Durability
 pub mod Freed
 pub mod Represents
 pub mod Rising
+pub mod Limits
 pub mod Start
 pub mod Uses
 pub mod Creations

@@ -4,20 +4,13 @@ use Rattle.driver_dispatch.specs.declared.devices.Devices as Devices
 use Rattle.admission.specs.declared.rules.Admission as Admission
 use Rattle.std.specs.Prelude.{ℕ, ◌≡◌, true, List, [], ◌∷◌, ◌++◌, length, drop, Option, is_some, Result, Err, MatchOption}
 use Rattle.std.specs.FinMap as map
-use Rattle.psa_status.specs.declared.Status.{Status}
-use Rattle.psa_status.specs.Rows.{first_row}
+use Rattle.psa_status.specs.{declared.Status.Status, Rows.first_row}
 use Rattle.driver_dispatch.specs.Held.{HeldKeys}
 use Rattle.key_slots.specs.Holdings.{Pairs}
 use Rattle.store_model.specs.Store as model
 use Rattle.store_model.specs.Prelude.{Call, buffer_after, is_opaque_key, FaultMark, marked_reply, Service, Entry, OnStore}
-use Rattle.secure_element_calls.specs.declared.calls.ElementCall.{ElementCall}
-use Rattle.secure_element_calls.specs.declared.calls.NotComputed.{NotComputed}
-use Rattle.secure_element_calls.specs.declared.calls.NotComputed.TheVariants.{Refused, Failed}
-use Rattle.secure_element_calls.specs.Answers.{AnswersCall, IsOfElement, mark_computed}
-use Rattle.secure_element_calls.specs.Calls.{needed_by}
-use Rattle.secure_element_calls.specs.Replies.{all_rows, reply_on}
-use Rattle.store_core.specs.declared.store.Store.{Store}
-use Rattle.store_core.specs.Represents.{IsEntry, Opening, StandsFor}
+use Rattle.secure_element_calls.specs.{declared.calls.ElementCall.ElementCall, declared.calls.NotComputed.NotComputed, declared.calls.NotComputed.TheVariants.Refused, declared.calls.NotComputed.TheVariants.Failed, Answers.AnswersCall, Answers.IsOfElement, Answers.mark_computed, Calls.needed_by, Replies.all_rows, Replies.reply_on}
+use Rattle.store_core.specs.{declared.store.Store.Store, Represents.IsEntry, Represents.Opening, Represents.StandsFor}
 
 -- What a call answers, and what it makes of its output buffer, by the key of the element that the model has at its key's
 -- identifier. Over a device that doesn't tell its keys, what the element computes is whatever it is.

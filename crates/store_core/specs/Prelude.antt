@@ -1,6 +1,7 @@
 -- The words of this crate that others cite, a line or two for each file that says them.
 pub use Rattle.store_core.specs.Durability.{KeepsKeys, course_of, durable_keys, is_destruction}
 pub use Rattle.store_core.specs.Freed.{FreedCellsAreZeros}
+pub use Rattle.store_core.specs.Limits.{HasRoom, IsFirstOver, IsRangeFull, IsUnopened}
 pub use Rattle.store_core.specs.Represents.{Adds, AddsAs, Destroys, Gives, HasModel, HasOpaque, HasOut, HoldsOf, IsEntry, IsReading, IsTold, LeavesKeys, Opening, Reads, ReadsAndGives, ReadsNone, Stands, StandsFor, Steps, Takes}
 pub use Rattle.store_core.specs.Refusals.{CallsNothing, WritesNothing}
 pub use Rattle.store_core.specs.Rising.{AreRising, NoFewerFaults, opening_after}

@@ -2,20 +2,14 @@
 use Rattle.disk_face.specs.declared.Disk as Disk
 use Rattle.driver_dispatch.specs.declared.devices.Devices as Devices
 use Rattle.admission.specs.declared.rules.Admission as Admission
-use Rattle.std.specs.Prelude.{◌≡◌, ◌⊎◌, ◌<◌, ◌≤◌, ◌+◌, ℕ, true, List, [], ◌∷◌, ◌++◌, length, is_some}
-use Rattle.std.specs.List.{AllByRecursion}
+use Rattle.std.specs.{Prelude.◌≡◌, Prelude.◌⊎◌, Prelude.◌<◌, Prelude.◌≤◌, Prelude.◌+◌, Prelude.ℕ, Prelude.true, Prelude.List, Prelude.[], Prelude.◌∷◌, Prelude.◌++◌, Prelude.length, Prelude.is_some, List.AllByRecursion}
 use Rattle.psa_status.specs.declared.Status.TheVariants.{Success}
 use Rattle.disk_face.specs.Moments.{Within, done_at}
-use Rattle.key_cells.specs.declared.state.CellState.TheVariants.{Free}
-use Rattle.key_cells.specs.Prelude.{HasZeros, cell_state, cell_count}
+use Rattle.key_cells.specs.{declared.state.CellState.TheVariants.Free, Prelude.HasZeros, Prelude.cell_state, Prelude.cell_count}
 use Rattle.slot_table.specs.Slots.{empty_slot, filling_slot, slot_at}
 use Rattle.key_slots.specs.Holdings.{Pairs, named}
 use Rattle.store_model.specs.Prelude.{HasNumber, IsSound, Service, Plain, plain_step, Entry, replay, GainsNothing, IsCaller, found_made, made_after}
-use Rattle.store_core.specs.declared.store.Store.{Store}
-use Rattle.store_core.specs.Durability.{FitsPrefix, course_of, durable_keys}
-use Rattle.store_core.specs.Freed.{FreedCellsAreZeros}
-use Rattle.store_core.specs.Represents.{IsTold, LeavesKeys, Opening, Stands, StandsFor}
-use Rattle.store_core.specs.Zeros.{HasKeyOrZeros, StaysFree, last_store}
+use Rattle.store_core.specs.{declared.store.Store.Store, Durability.FitsPrefix, Durability.course_of, Durability.durable_keys, Freed.FreedCellsAreZeros, Represents.IsTold, Represents.LeavesKeys, Represents.Opening, Represents.Stands, Represents.StandsFor, Zeros.HasKeyOrZeros, Zeros.StaysFree, Zeros.last_store}
 
 module _ {D A C : Type 0} (disks : Disk.Ghosts D) (elements : Devices.Ghosts A) (admits : Admission.Ghosts C) (store : Store D A C) where
   -- ON CRASHES, over a disk that tells its bytes

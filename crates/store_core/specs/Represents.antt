@@ -5,18 +5,13 @@ use Rattle.admission.specs.declared.rules.Admission as Admission
 use Rattle.std.specs.Prelude.{◌≡◌, ◌<◌, ◌≤◌, ◌⊎◌, ℕ, ◌+◌, true, false, List, [], ◌∷◌, ◌++◌, length, slice_index, Option, None, Some, is_some}
 use Rattle.std.specs.FinMap as map
 use Rattle.key_cells.specs.declared.state.CellState as cell
-use Rattle.key_cells.specs.declared.state.CellState.TheVariants.{Open}
-use Rattle.key_cells.specs.Prelude.{cell_state, IsSure, cell_count}
+use Rattle.key_cells.specs.{declared.state.CellState.TheVariants.Open, Prelude.cell_state, Prelude.IsSure, Prelude.cell_count}
 use Rattle.persistent_keys.specs.Calls.{StandsForThese}
-use Rattle.key_slots.specs.Holdings.{Pairs, Gains, AreHoldings, named}
-use Rattle.key_slots.specs.Standing.{Agrees}
-use Rattle.driver_dispatch.specs.Held.{HeldKeys}
-use Rattle.driver_dispatch.specs.Calls.{HoldsHandle, Lacks}
+use Rattle.key_slots.specs.{Holdings.Pairs, Holdings.Gains, Holdings.AreHoldings, Holdings.named, Standing.Agrees}
+use Rattle.driver_dispatch.specs.{Held.HeldKeys, Calls.HoldsHandle, Calls.Lacks}
 use Rattle.store_model.specs.Store as model
 use Rattle.store_model.specs.Prelude.{Key, is_volatile, is_opaque, is_opaque_key, count_persistent, live_volatile, Destroy, FaultMark, Plain, counted, OnStore, IsSoundStore, may_change_keys, Service, Entry, outcome_of, replay, FaultCounts, key_changed, id_read, reads_persistent, IsCaused, AreAllowed, last_counts}
-use Rattle.store_core.specs.declared.store.Store.{Store}
-use Rattle.store_core.specs.Durability.{durable_keys, course_of, KeepsKeys}
-use Rattle.store_core.specs.Freed.{HaveFreed, IsFreeSince}
+use Rattle.store_core.specs.{declared.store.Store.Store, Durability.durable_keys, Durability.course_of, Durability.KeepsKeys, Freed.HaveFreed, Freed.IsFreeSince}
 
 -- no entry reads a persistent key
 abbrev pub ReadsNone : Service → List Entry → Type 0
@@ -77,6 +72,7 @@ module _ {D A C : Type 0} (disks : Disk.Ghosts D) (elements : Devices.Ghosts A) 
     pub settings : model.settings ≡ start.store.settings
     pub labels_are : model.settings.labels ≡ admits.labels store.rules
     pub locations_are : model.settings.locations ≡ elements.locations store.devices
+    pub limits_are : model.settings.limits ≡ store.limits
     pub found : model.found ≡ store.found
     pub few : store.found ≤ cell_count
     pub calls : model.calls ≡ store.ranked

@@ -1,8 +1,7 @@
 -- What never falls: how often the disk and the devices have failed, and the disk's moments.
 use Rattle.std.specs.Prelude.{◌≡◌, ◌≤◌, ℕ, Bool, true, List, [], ◌∷◌}
 use Rattle.store_model.specs.Prelude.{Entry}
-use Rattle.store_core.specs.declared.store.Store.{Store}
-use Rattle.store_core.specs.Represents.{Opening}
+use Rattle.store_core.specs.{declared.store.Store.Store, Represents.Opening}
 
 -- calls of a store, after which neither the disk nor the devices have failed less often
 pub record NoFewerFaults {D A C : Type 0} (faults : D → ℕ) (device_faults : A → ℕ) (old new : Store D A C) : Type 0 where

@@ -4,13 +4,10 @@ use Rattle.driver_dispatch.specs.declared.devices.Devices as Devices
 use Rattle.admission.specs.declared.rules.Admission as Admission
 use Rattle.std.specs.Prelude.{◌≡◌, ◌<◌, ◌≤◌, ◌↔◌, ℕ, List, [], length, replicate, count_by, slice_get, Option, Some, IfSome}
 use Rattle.key_cells.specs.declared.state.CellState as cell
-use Rattle.key_cells.specs.declared.state.CellState.TheVariants.{Open}
-use Rattle.key_cells.specs.Prelude.{body, cell_state, is_open, IsKeyOf, HoldsKey, HasKey, cell_count}
+use Rattle.key_cells.specs.{declared.state.CellState.TheVariants.Open, Prelude.body, Prelude.cell_state, Prelude.is_open, Prelude.IsKeyOf, Prelude.HoldsKey, Prelude.HasKey, Prelude.cell_count}
 use Rattle.key_attributes.specs.declared.Attributes.{Attributes}
 use Rattle.store_model.specs.Prelude.{OpenedKey, Settings, Service, service_of, start_of}
-use Rattle.store_core.specs.declared.store.Opened.{Opened}
-use Rattle.store_core.specs.declared.store.Store.{Store}
-use Rattle.store_core.specs.Represents.{Opening, StandsFor}
+use Rattle.store_core.specs.{declared.store.Opened.Opened, declared.store.Store.Store, Represents.Opening, Represents.StandsFor}
 
 -- The keys of a directory's open cells, by their numbers. Where the disk tells its bytes, each is the key that its cell has
 -- there.
@@ -28,6 +25,7 @@ module _ {D A C : Type 0} (disks : Disk.Ghosts D) (elements : Devices.Ghosts A) 
     pub seed_is : settings.seed ≡ opened.seed.value
     pub labels_are : settings.labels ≡ admits.labels opened.rules.value
     pub locations_are : settings.locations ≡ elements.locations opened.devices.value
+    pub limits_are : settings.limits ≡ opened.limits.value
     pub keys : AreOpened (disks.contents opened.file.value.cells.disk) opened.file.value.cells.states found
 
   -- the disk's moment and the counts of faults as the opening answered

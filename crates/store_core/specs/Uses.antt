@@ -1,30 +1,21 @@
 -- What a turn that looks for a key finds, and what it leaves.
-use Rattle.std.specs.Prelude.{◌≡◌, ◌<◌, ◌⊎◌, ℕ, true, List, Option, Some, None, if◌then◌else◌}
-use Rattle.std.specs.Option.{option_map}
+use Rattle.std.specs.{Prelude.◌≡◌, Prelude.◌<◌, Prelude.◌⊎◌, Prelude.ℕ, Prelude.true, Prelude.List, Prelude.Option, Prelude.Some, Prelude.None, Prelude.if◌then◌else◌, Option.option_map}
 use Rattle.std.specs.FinMap as map
-use Rattle.psa_status.specs.declared.Status.{Status}
-use Rattle.psa_status.specs.declared.Status.TheVariants.{InvalidHandle, StorageFailure, HardwareFailure, DataCorrupt}
-use Rattle.psa_status.specs.Rows.{first_row}
+use Rattle.psa_status.specs.{declared.Status.Status, declared.Status.TheVariants.InvalidHandle, declared.Status.TheVariants.StorageFailure, declared.Status.TheVariants.HardwareFailure, declared.Status.TheVariants.DataCorrupt, Rows.first_row}
 use Rattle.key_attributes.specs.declared.Attributes.{Attributes}
 use Rattle.secret_bytes.specs.Buffer.{bytes_of}
 use Rattle.key_cells.specs.declared.state.CellState as cell
-use Rattle.key_cells.specs.declared.state.CellState.TheVariants.{Free}
-use Rattle.key_cells.specs.declared.cells.CellFault.{CellFault}
+use Rattle.key_cells.specs.{declared.state.CellState.TheVariants.Free, declared.cells.CellFault.CellFault, Prelude.cell_state, Prelude.has_id, Prelude.cell_count}
 use Rattle.key_cells.specs.declared.cells.CellFault.TheVariants as cell_fault
-use Rattle.key_cells.specs.Prelude.{cell_state, has_id, cell_count}
 use Rattle.driver_dispatch.specs.Held.{HeldKeys, without_key}
-use Rattle.slot_table.specs.Slots.{Slot, empty_slot, holds_key, slot_at}
-use Rattle.slot_table.specs.Changes.{destroyed_slot}
+use Rattle.slot_table.specs.{Slots.Slot, Slots.empty_slot, Slots.holds_key, Slots.slot_at, Changes.destroyed_slot}
 use Rattle.slot_table.specs.Lent as lent
-use Rattle.key_slots.specs.Standing.{SlotHasKey}
-use Rattle.key_slots.specs.Wiping.{KeepsSlot}
+use Rattle.key_slots.specs.{Standing.SlotHasKey, Wiping.KeepsSlot}
 use Rattle.store_model.specs.Store as model
 use Rattle.store_model.specs.Prelude.{Key, is_opaque, is_persistent_key, is_opaque_key, FaultMark, Plain, Storage, Hardware, Reading, Writing, destroy_rows}
 use Rattle.store_model.specs.Faults as fault
-use Rattle.store_core.specs.declared.destroying.NotDestroyed.{NotDestroyed}
+use Rattle.store_core.specs.{declared.destroying.NotDestroyed.NotDestroyed, declared.reading.Unread.Unread, declared.reading.Unread.TheVariants.Missing, declared.reading.Unread.TheVariants.Disk, declared.reading.Unread.TheVariants.Corrupt}
 use Rattle.store_core.specs.declared.destroying.NotDestroyed.TheVariants as undestroyed
-use Rattle.store_core.specs.declared.reading.Unread.{Unread}
-use Rattle.store_core.specs.declared.reading.Unread.TheVariants.{Missing, Disk, Corrupt}
 
 -- what a call answers that didn't find its key
 abbrev pub status_of : Unread → Status

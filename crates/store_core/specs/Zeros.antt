@@ -4,15 +4,11 @@ use Rattle.driver_dispatch.specs.declared.devices.Devices as Devices
 use Rattle.admission.specs.declared.rules.Admission as Admission
 use Rattle.std.specs.Prelude.{◌≡◌, ◌<◌, ◌⊎◌, ℕ, true, List, [], ◌∷◌, Some, is_some}
 use Rattle.disk_face.specs.Moments.{Within}
-use Rattle.key_cells.specs.declared.state.CellState.TheVariants.{Free}
-use Rattle.key_cells.specs.Prelude.{gate, body, closed, opened_gate, HasZeros, cell_state, HoldsKey, cell_count}
-use Rattle.persistent_keys.specs.declared.file.KeyFile.{KeyFile}
-use Rattle.persistent_keys.specs.Files.{Stored, Keys, Doubt, IsDoubtedIn}
-use Rattle.persistent_keys.specs.Calls.{StandsForThese}
+use Rattle.key_cells.specs.{declared.state.CellState.TheVariants.Free, Prelude.gate, Prelude.body, Prelude.closed, Prelude.opened_gate, Prelude.HasZeros, Prelude.cell_state, Prelude.HoldsKey, Prelude.cell_count}
+use Rattle.persistent_keys.specs.{declared.file.KeyFile.KeyFile, Files.Stored, Files.Keys, Files.Doubt, Files.IsDoubtedIn, Calls.StandsForThese}
 use Rattle.key_slots.specs.Holdings.{Pairs}
 use Rattle.store_model.specs.Prelude.{Service, Entry}
-use Rattle.store_core.specs.declared.store.Store.{Store}
-use Rattle.store_core.specs.Represents.{Opening, Stands, StandsFor}
+use Rattle.store_core.specs.{declared.store.Store.Store, Represents.Opening, Represents.Stands, Represents.StandsFor}
 
 -- a cell of an image has one of these keys, or is all zeros
 abbrev pub HasKeyOrZeros : Keys → ℕ → List ℕ → Type 0

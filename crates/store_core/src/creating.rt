@@ -1,6 +1,5 @@
 //! How a turn creates a key.
-ghost use Rattle.std.specs.Prelude.{◌≡◌, ◌<◌, ◌≤◌, ◌^◌, ◌+◌, ℕ, List, length, slice_index, slice_set, true, false, ⊤, Some, None, IfOk, IfErr, IfSome, OnOk, OnErr, IsTrue, is_some};
-ghost use Rattle.std.specs.Option.{option_map};
+ghost use Rattle.std.specs.{Prelude.◌≡◌, Prelude.◌<◌, Prelude.◌≤◌, Prelude.◌^◌, Prelude.◌+◌, Prelude.ℕ, Prelude.List, Prelude.length, Prelude.slice_index, Prelude.slice_set, Prelude.true, Prelude.false, Prelude.⊤, Prelude.Some, Prelude.None, Prelude.IfOk, Prelude.IfErr, Prelude.IfSome, Prelude.OnOk, Prelude.OnErr, Prelude.IsTrue, Prelude.is_some, Option.option_map};
 ghost use Rattle.psa_status.specs.Causes.{HasCause};
 ghost use Rattle.disk_face.specs.Disk.{StillTells};
 ghost use Rattle.key_attributes.specs.Checks.{is_key_type, permits_size};
@@ -10,10 +9,7 @@ ghost use Rattle.key_cells.specs.Prelude.{FitsRecord, store_size};
 ghost use Rattle.slot_table.specs.{Slots.NoKey, Slots.empty_slot, Slots.slot_at, Changes.full_slot};
 ghost use Rattle.key_slots.specs.{Standing.IsOut, Wiping.EndsOnly, Wiping.IsFillingOf};
 ghost use Rattle.store_model.specs.Prelude.{first_volatile, is_opaque, is_volatile, identified};
-ghost use Rattle.store_core.specs.Represents.{ranked_on};
-ghost use Rattle.store_core.specs.Refusals.{CallsNothing};
-ghost use Rattle.store_core.specs.Rising.{NoFewerFaults};
-ghost use Rattle.store_core.specs.Zeros.{FileStaysZeros, StaysZeros};
+ghost use Rattle.store_core.specs.{Represents.ranked_on, Refusals.CallsNothing, Rising.NoFewerFaults, Zeros.FileStaysZeros, Zeros.StaysZeros};
 ghost use Rattle.store_core.specs.Creations.{CreatesMade, CreatesUnmade, EntersMade, EntersUnkept, FillsWith, HasOutBeside, HoldsLent, IsSomeReady, OnRefused, RecordsStated, StandsLent, status_unkept, status_unmade};
 
 use crate::Store;

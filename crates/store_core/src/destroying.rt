@@ -1,13 +1,10 @@
 //! How a turn destroys a key.
-ghost use Rattle.std.specs.Prelude.{◌≡◌, ◌<◌, ◌≤◌, ◌^◌, ◌+◌, ◌/◌, ◌⊎◌, ℕ, List, true, false, None, Some, Bool, OnOk, OnErr, IfErr, IsErrOf, IsTrue, ⊤, is_some};
-ghost use Rattle.std.specs.Option.{option_map};
+ghost use Rattle.std.specs.{Prelude.◌≡◌, Prelude.◌<◌, Prelude.◌≤◌, Prelude.◌^◌, Prelude.◌+◌, Prelude.◌/◌, Prelude.◌⊎◌, Prelude.ℕ, Prelude.List, Prelude.true, Prelude.false, Prelude.None, Prelude.Some, Prelude.Bool, Prelude.OnOk, Prelude.OnErr, Prelude.IfErr, Prelude.IsErrOf, Prelude.IsTrue, Prelude.⊤, Prelude.is_some, Option.option_map};
 ghost use Rattle.std.specs.FinMap as map;
 ghost use Rattle.disk_face.specs.Disk.{StillTells};
-ghost use Rattle.psa_status.specs.declared.Status.TheVariants.{InvalidHandle};
-ghost use Rattle.psa_status.specs.{Causes.HasCause, Rows.first_row};
+ghost use Rattle.psa_status.specs.{declared.Status.TheVariants.InvalidHandle, Causes.HasCause, Rows.first_row};
 ghost use Rattle.driver_dispatch.specs.{Held.without_key, Calls.HoldsHandle, Calls.has_element};
-ghost use Rattle.key_cells.specs.declared.state.CellState.TheVariants.{Free};
-ghost use Rattle.key_cells.specs.Prelude.{IsFirstWithKey, cell_state, has_id, store_size};
+ghost use Rattle.key_cells.specs.{declared.state.CellState.TheVariants.Free, Prelude.IsFirstWithKey, Prelude.cell_state, Prelude.has_id, Prelude.store_size};
 ghost use Rattle.slot_states.specs.declared.SlotState.TheVariants.{Full};
 ghost use Rattle.slot_table.specs.{Slots.NoKey, Slots.holds_key, Slots.slot_at, Changes.destroyed_slot};
 ghost use Rattle.key_slots.specs.Wiping.{EndsOnly};

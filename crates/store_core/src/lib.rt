@@ -49,5 +49,5 @@ pub use copying::NotCopied;
 pub use creating::{NotMade, Unkept};
 pub use destroying::NotDestroyed;
 pub use laws::the_start_is_the_disks;
-pub use opening::Unopened;
+pub use opening::{StoreFault, Unopened};
 pub use store::{Opened, Store};

@@ -52,6 +52,7 @@ impl<D: Disk, A: Devices, C: Admission> Store<D, A, C> {
         ensures file { self.new.file ≡ self.old.file }
         ensures slots { self.new.slots ≡ self.old.slots }
         ensures rules { self.new.rules ≡ self.old.rules }
+        ensures limits { self.new.limits ≡ self.old.limits }
         ensures keys { A.keys self.new.devices ≡ A.keys self.old.devices }
         ensures buffer { self.new.buffer ≡ self.old.buffer }
         ensures opened { self.new.opened ≡ self.old.opened }

@@ -1,12 +1,13 @@
 //! How a store is opened.
-ghost use Rattle.std.specs.Prelude.{◌≡◌, ◌≤◌, ◌↔◌, ℕ, List, [], length, replicate, count_by, slice_get, Some, IfOk, IfErr, IfSome};
+ghost use Rattle.std.specs.Prelude.{◌≡◌, ◌≤◌, ◌↔◌, ℕ, List, [], length, replicate, count_by, slice_get, Some, IfOk, IfErr, IfSome, MatchOption};
 ghost use Rattle.secret_bytes.specs.Buffer.{IsClear};
-ghost use Rattle.key_cells.specs.Prelude.{is_open, IsOpened, IsOpeningRefused, cell_count, store_size};
+ghost use Rattle.key_cells.specs.Prelude.{is_of_range, is_open, IsNamed, IsOpened, cell_count, store_size};
 ghost use Rattle.slot_table.specs.Slots.{empty_slot};
 ghost use Rattle.driver_dispatch.specs.Calls.{Lacks};
-ghost use Rattle.store_model.specs.Prelude.{Service};
-ghost use Rattle.store_core.specs.Start.{BeginsAtStart, FindsKeysOf, IsStart};
+ghost use Rattle.store_model.specs.Prelude.{Service, range_limit};
+ghost use Rattle.store_core.specs.{Limits.HasRoom, Limits.IsFirstOver, Limits.IsRangeFull, Limits.IsUnopened, Start.BeginsAtStart, Start.FindsKeysOf, Start.IsStart};
 
+use crate::recording::RANGE_LIMIT;
 use crate::{Opened, Store};
 use admission::Admission;
 use disk_face::Disk;
@@ -18,13 +19,23 @@ use psa_status::Memory;
 use secret_bytes::Secret;
 use std::alloc::Global;
 use std::snapshot::Snapshot;
+use store_model::Limits;
+
+/// Why a store wasn't opened.
+#[derive(Clone, Copy, Debug, PartialEq, Eq, Drop)]
+pub enum StoreFault {
+    /// Its file wasn't.
+    File(OpenFault),
+    /// A range of identifiers has more keys than it may. No other range below it has.
+    RangeFull { range: u32 },
+}
 
 /// What comes back where a store wasn't opened, and why it wasn't.
 #[derive(Drop)]
 pub struct Unopened<D: Disk, A: Devices> {
     pub disk: D,
     pub devices: A,
-    pub fault: OpenFault,
+    pub fault: StoreFault,
 }
 
 // Empty slots, and a clear buffer.
@@ -37,16 +48,44 @@ fn new_rooms(alloc: Global) -> Result<(KeySlots, Secret), Memory>
     Ok((slots, buffer))
 }
 
+// The lowest range that has more keys than it may.
+fn full_range<D: Disk>(file: &KeyFile<D>, limits: Limits) -> Option<u32>
+    requires named { IsNamed cell_count file.now.cells.states }
+    requires sized { length file.now.cells.states ≡ cell_count }
+    ensures { MatchOption result (HasRoom limits file.now.cells.states) (IsRangeFull limits file.now.cells.states) }
+{
+    match limits {
+        Limits::Whole => None,
+        Limits::PerRange => range_over_limit(file),
+    }
+}
+
+// The lowest range with more than 128 keys. A key that is kept has an identifier of one of sixteen ranges.
+fn range_over_limit<D: Disk>(file: &KeyFile<D>) -> Option<u32>
+    requires named { IsNamed cell_count file.now.cells.states }
+    requires sized { length file.now.cells.states ≡ cell_count }
+    ensures { MatchOption result ((range : ℕ) → count_by (is_of_range range) file.now.cells.states ≤ range_limit) (IsFirstOver file.now.cells.states) }
+{
+    for range in 0..16 {
+        if file.in_range(range) > RANGE_LIMIT {
+            return Some(range);
+        }
+    }
+    None
+}
+
 impl<D: Disk, A: Devices, C: Admission> Store<D, A, C> {
     /// Opens the store of a disk, or makes one on a disk of length 0, for callers whose random words have this seed. The keys
     /// are those of the disk, and no call was made yet. `Memory` where there is no room for the slots, for the buffer or for the directory: for the former two it comes
     /// before the disk is called. `Disk` only where the disk's faults rose; `NotAStore` and `DamagedCell` for what the disk
-    /// has, and then nothing is written to it. Where the store isn't opened the disk and the devices come back.
+    /// has, and then nothing is written to it. With limits by range, `RangeFull` where a range has more than 128 of the keys:
+    /// the disk is then as the opening of its file left it. Where the store isn't opened the disk and the devices come back.
     pub fn open(
         alloc: Global,
         disk: D,
         devices: A,
         rules: C,
+        limits: Limits,
         seed: &[u8; 32],
     ) -> Result<Store<D, A, C>, Unopened<D, A>>
         requires empty { (handle : ℕ) → Lacks (A.keys devices) handle }
@@ -61,11 +100,13 @@ impl<D: Disk, A: Devices, C: Admission> Store<D, A, C> {
         ensures found { IfOk result (λ store. store.found ≡ count_by is_open store.file.cells.states) }
         ensures devices { IfOk result (λ store. store.devices ≡ devices) }
         ensures rules { IfOk result (λ store. store.rules ≡ rules) }
+        ensures room { IfOk result (λ store. HasRoom limits store.file.cells.states) }
         ensures saw_file { IfOk result (λ store. store.opened.file.value ≡ store.file) }
         ensures saw_devices { IfOk result (λ store. store.opened.devices.value ≡ store.devices) }
         ensures saw_rules { IfOk result (λ store. store.opened.rules.value ≡ store.rules) }
+        ensures saw_limits { IfOk result (λ store. store.opened.limits.value ≡ limits) }
         ensures saw_seed { IfOk result (λ store. store.opened.seed.value ≡ seed.now) }
-        ensures refused { IfErr result (λ unopened. IsOpeningRefused D.Disk disk unopened.disk unopened.fault) }
+        ensures refused { IfErr result (λ unopened. IsUnopened D.Disk limits disk unopened.disk unopened.fault) }
         ensures returned { IfErr result (λ unopened. unopened.devices ≡ devices) }
     {
         let (slots, buffer) = match new_rooms(alloc) {
@@ -74,17 +115,27 @@ impl<D: Disk, A: Devices, C: Admission> Store<D, A, C> {
                 return Err(Unopened {
                     disk,
                     devices,
-                    fault: OpenFault::Memory,
+                    fault: StoreFault::File(OpenFault::Memory),
                 });
             }
         };
-        match KeyFile::open(alloc, disk) {
-            Ok(file) => Ok(Store::with_file(file, slots, devices, rules, buffer, seed)),
-            Err(refused) => Err(Unopened {
-                disk: refused.0,
+        let file = match KeyFile::open(alloc, disk) {
+            Ok(file) => file,
+            Err(refused) => {
+                return Err(Unopened {
+                    disk: refused.0,
+                    devices,
+                    fault: StoreFault::File(refused.1),
+                });
+            }
+        };
+        match full_range(&file, limits) {
+            Some(range) => Err(Unopened {
+                disk: file.into_disk(),
                 devices,
-                fault: refused.1,
+                fault: StoreFault::RangeFull { range },
             }),
+            None => Ok(Store::with_file(file, slots, devices, rules, limits, buffer, seed)),
         }
     }
 
@@ -94,6 +145,7 @@ impl<D: Disk, A: Devices, C: Admission> Store<D, A, C> {
         slots: KeySlots,
         devices: A,
         rules: C,
+        limits: Limits,
         buffer: Secret,
         seed: &[u8; 32],
     ) -> Store<D, A, C>
@@ -102,6 +154,7 @@ impl<D: Disk, A: Devices, C: Admission> Store<D, A, C> {
         ensures slots { result.slots ≡ slots }
         ensures devices { result.devices ≡ devices }
         ensures rules { result.rules ≡ rules }
+        ensures limits { result.limits ≡ limits }
         ensures made { result.made ≡ replicate 17 0 }
         ensures live { result.live ≡ replicate 17 0 }
         ensures kept { result.kept ≡ count_by is_open file.cells.states }
@@ -111,6 +164,7 @@ impl<D: Disk, A: Devices, C: Admission> Store<D, A, C> {
         ensures saw_file { result.opened.file.value ≡ file }
         ensures saw_devices { result.opened.devices.value ≡ devices }
         ensures saw_rules { result.opened.rules.value ≡ rules }
+        ensures saw_limits { result.opened.limits.value ≡ limits }
         ensures saw_seed { result.opened.seed.value ≡ seed.now }
     {
         let count = file.count();
@@ -118,6 +172,7 @@ impl<D: Disk, A: Devices, C: Admission> Store<D, A, C> {
             file: Snapshot::of(&file),
             devices: Snapshot::of(&devices),
             rules: Snapshot::of(&rules),
+            limits: Snapshot::of(&limits),
             seed: Snapshot::of(seed),
         };
         Store {
@@ -125,6 +180,7 @@ impl<D: Disk, A: Devices, C: Admission> Store<D, A, C> {
             slots,
             devices,
             rules,
+            limits,
             made: [0; 17],
             live: [0; 17],
             kept: count as u32,

@@ -2,8 +2,7 @@
 ghost use Rattle.std.specs.Prelude.{◌≡◌, false, List};
 ghost use Rattle.store_model.specs.Prelude.{Service, may_change_keys, Entry};
 ghost use Rattle.store_core.specs.declared.store.Store as store;
-ghost use Rattle.store_core.specs.Represents.{LeavesKeys};
-ghost use Rattle.store_core.specs.Zeros.{StaysZeros};
+ghost use Rattle.store_core.specs.{Represents.LeavesKeys, Zeros.StaysZeros};
 ghost use Rattle.store_core.specs.Promises.{LeavesPrefixSinceOpening, LeavesPrefixSinceDone, LeavesFreeCellsZeros, LeavesKeysOrZeros, LeavesZerosOverTurns, LeavesZerosSince, LeavesFreedCellsZeros, HasReadersByLeases, KeepsLeasedKeys, WipesDestroyedKeys, LeavesKeysWhereRefused, GainsNothingByCopies};
 
 use crate::Store;

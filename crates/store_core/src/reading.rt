@@ -80,6 +80,7 @@ impl<D: Disk, A: Devices, C: Admission> Store<D, A, C> {
         ensures keeps { KeepsFile D.Disk self.old.file self.new.file }
         ensures devices { self.new.devices ≡ self.old.devices }
         ensures rules { self.new.rules ≡ self.old.rules }
+        ensures limits { self.new.limits ≡ self.old.limits }
         ensures made { self.new.made ≡ self.old.made }
         ensures found_count { self.new.found ≡ self.old.found }
         ensures ranked { self.new.ranked ≡ self.old.ranked }

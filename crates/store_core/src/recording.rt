@@ -4,7 +4,7 @@ ghost use Rattle.std.specs.FinMap as map;
 ghost use Rattle.psa_status.specs.Rows.{first_row};
 ghost use Rattle.key_slots.specs.{Holdings.Pairs, Standing.Agrees};
 ghost use Rattle.store_model.specs.Store as model;
-ghost use Rattle.store_model.specs.Prelude.{IsSoundStore, recorded_of, room_for_key_rows};
+ghost use Rattle.store_model.specs.Prelude.{IsSoundStore, lacks_room, recorded_of, room_for_key_rows};
 ghost use Rattle.store_core.specs.{Creations.HoldsWithin, Represents.IsDirectory};
 
 use crate::Store;
@@ -13,13 +13,20 @@ use disk_face::Disk;
 use driver_dispatch::Devices;
 use key_attributes::{Attributes, KeyId, LAST_STATED_ID, check_attributes};
 use psa_status::Status;
+use store_model::Limits;
 
 // How many volatile keys of a caller may be alive, how many it may make, and how many persistent keys there may be.
 const LIVE_LIMIT: u8 = 16;
 
 const MADE_LIMIT: u32 = 1 << 20;
 
-const KEPT_LIMIT: u32 = 512;
+const KEPT_LIMIT: u32 = 2048;
+
+/// How many of them there may be in each range of identifiers, where the limits are by range.
+pub const RANGE_LIMIT: usize = 128;
+
+// How many identifiers a range has.
+const RANGE: u32 = 1 << 26;
 
 impl<D: Disk, A: Devices, C: Admission> Store<D, A, C> {
     // What a creation of a key of so many bytes records, or its first refusal.
@@ -68,10 +75,23 @@ impl<D: Disk, A: Devices, C: Admission> Store<D, A, C> {
         if self.has(attributes.id) {
             return Err(Status::AlreadyExists);
         }
-        if self.kept >= KEPT_LIMIT {
+        if self.is_full(attributes.id) {
             return Err(Status::InsufficientStorage);
         }
         Ok(())
+    }
+
+    // Whether there is no room for a persistent key of this identifier.
+    fn is_full(&self, id: KeyId) -> bool
+        ensures { HoldsWithin D.Disk A.Devices C.Admission self.now (λ m. result ≡ lacks_room m id.0) }
+    {
+        if self.kept >= KEPT_LIMIT {
+            return true;
+        }
+        match self.limits {
+            Limits::Whole => false,
+            Limits::PerRange => self.file.in_range(id.0 / RANGE) >= RANGE_LIMIT,
+        }
     }
 
     // Whether there is a key. One whose identifier can be stated is in the file, and every other in a slot.

@@ -6,6 +6,7 @@ use key_slots::KeySlots;
 use persistent_keys::KeyFile;
 use secret_bytes::Secret;
 use std::snapshot::Snapshot;
+use store_model::Limits;
 
 /// Keys in slots, in a file and in a device, under rules.
 #[derive(Drop)]
@@ -16,6 +17,8 @@ pub struct Store<D: Disk, A: Devices, C: Admission> {
     pub file: KeyFile<D>,
     pub devices: A,
     pub rules: C,
+    /// How many persistent keys it takes.
+    pub limits: Limits,
     /// How many volatile keys each caller has made, by its number.
     pub made: [u32; 17],
     /// How many volatile keys of each caller are alive, by its number.
@@ -30,12 +33,13 @@ pub struct Store<D: Disk, A: Devices, C: Admission> {
     pub opened: Opened<D, A, C>,
 }
 
-/// The file, the devices and the rules as the opening left them, and the seed of the callers' random words. It has no bytes at
-/// run time.
+/// The file, the devices, the rules and the limits as the opening left them, and the seed of the callers' random words. It has
+/// no bytes at run time.
 #[derive(Drop)]
 pub struct Opened<D: Disk, A: Devices, C: Admission> {
     pub file: Snapshot<KeyFile<D>>,
     pub devices: Snapshot<A>,
     pub rules: Snapshot<C>,
+    pub limits: Snapshot<Limits>,
     pub seed: Snapshot<[u8; 32]>,
 }

@@ -1,9 +1,7 @@
 -- What a derivation's step makes of its operation.
 use Rattle.std.proofs.Common.{Bool, List, None, Option, Some, arith, bytes_eq, cond, false, is_some, length, nat_lt, not, refl, true, ℕ, ◌&&◌, ◌++◌, ◌==◌, ◌||◌, ◌≡◌, ◌≤◌}
 use Rattle.store_model.proofs.Common.{DerivationStep, DerivationWork, Deriving, GetCapacity, HandleCall, InputBytes, InputInteger, InsufficientData, InvalidArgument, InvalidHandle, InvalidSignature, IsSoundDerivation, Key, KeyCreation, OnDerivation, OutputBytes, Reply, SetCapacity, Status, Store, VerifyBytes, bytes_or_empty, compared, derivation_step, derivation_work, done, exhausted, first_row, given, goes_on, held_after, info_step, input_bytes_rows, input_integer_rows, input_key_rows, is_due, is_hkdf, is_info_due, is_salt_due, is_secret_due, left_by, nat_tests, next_derived, output_rows, refusal, salt_step, with_key, without}
-use Rattle.store_model.proofs.Buffers.{refusal_leaves}
-use Rattle.store_model.proofs.Tables.{NoFault, none_holds, refused_by, refuses_plainly}
-use Rattle.store_model.proofs.Steps.{IsStep, Loses, held_derivation, unless_step, goes_step}
+use Rattle.store_model.proofs.{Buffers.refusal_leaves, Tables.NoFault, Tables.none_holds, Tables.refused_by, Tables.refuses_plainly, Steps.IsStep, Steps.Loses, Steps.held_derivation, Steps.unless_step, Steps.goes_step}
 
 -- inputs
 

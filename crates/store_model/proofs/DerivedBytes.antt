@@ -2,8 +2,7 @@
 use Rattle.std.proofs.Common.{Bool, List, None, Option, Some, [], ap, arith, cond, false, is_some, length, length-append, refl, suc, true, zero, ℕ, ◌*◌, ◌+◌, ◌-◌, ◌/◌, ◌==◌, ◌∙◌, ◌≡◌, ◌≤◌}
 use Rattle.store_model.proofs.Common.{bytes_or_empty, DerivationWork, derived, digest, expand, expand_block, expand_blocks, extract, hash_block_length, hash_length, is_hkdf, IsSoundDerivation, length-drop, length-take-le, low_byte, next_derived, number_or_zero, pbkdf2, pbkdf2_block, pbkdf2_blocks, sha224, sha256}
 use Rattle.sha2.specs.Sha512.{sha384, sha512}
-use Rattle.sha2.proofs.Facts256.{length-sha224, length-sha256}
-use Rattle.sha2.proofs.Facts512.{length-sha384, length-sha512}
+use Rattle.sha2.proofs.{Facts256.length-sha224, Facts256.length-sha256, Facts512.length-sha384, Facts512.length-sha512}
 use Rattle.alg_encoding.specs.Table as table
 use Rattle.crypto_specs.proofs.CodeLengths.{length-expand_block, length-pbkdf2_block}
 

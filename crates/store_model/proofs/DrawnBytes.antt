@@ -1,8 +1,7 @@
 -- How many random bytes a draw gives.
-use Rattle.std.proofs.Common.{List, arith, length, refl, suc, zero, ℕ, ◌*◌, ◌+◌, ◌≡◌, ◌≤◌}
+use Rattle.std.proofs.{Common.List, Common.arith, Common.length, Common.refl, Common.suc, Common.zero, Common.ℕ, Common.◌*◌, Common.◌+◌, Common.◌≡◌, Common.◌≤◌, lemmas.List.length-append, lemmas.List.length-take-le}
 use Rattle.store_model.proofs.Common.{bytes_of_words, random_bytes, random_word, words_used}
 use Rattle.std.specs.Int.{w32, to_le_bytes}
-use Rattle.std.proofs.lemmas.List.{length-append, length-take-le}
 
 length-words : (seed : List ℕ) (stream place n : ℕ) → length (bytes_of_words seed stream place n) ≡ 4 * n
 unfolding bytes_of_words

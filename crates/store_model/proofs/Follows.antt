@@ -1,8 +1,7 @@
 -- The keys after a call are those before, and the one that the call made.
 use Rattle.std.proofs.Common.{Bool, List, None, Option, Some, ap, arith, cond, false, inl, inr, refl, sym, true, ℕ, ◌+◌, ◌==◌, ◌∙◌, ◌≡◌, ◌≤◌, ◌⊎◌}
-use Rattle.store_model.proofs.Common.{Active, Attributes, HandleOperation, InError, Inactive, IsSoundCreation, IsSoundOperation, IsSoundUse, Key, KeyCreation, KeyMap, Store, counted, created, destroyed, new_id, new_key}
+use Rattle.store_model.proofs.{Common.Active, Common.Attributes, Common.HandleOperation, Common.InError, Common.Inactive, Common.IsSoundCreation, Common.IsSoundOperation, Common.IsSoundUse, Common.Key, Common.KeyCreation, Common.KeyMap, Common.Store, Common.counted, Common.created, Common.destroyed, Common.new_id, Common.new_key, Sound.put, Sound.taken, Sound.left}
 use Rattle.std.specs.FinMap as map
-use Rattle.store_model.proofs.Sound.{put, taken, left}
 
 pub record Follows (store after : Store) : Type 0 where
   pub later : store.found + store.calls ≤ after.found + after.calls

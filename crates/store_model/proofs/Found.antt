@@ -1,11 +1,9 @@
 -- The keys that are there before a history count as made before it.
 use Rattle.std.proofs.Common.{Bool, List, None, Some, T, [], ap, arith, cond, false, length, refl, subst, sym, true, ℕ, ◌&&◌, ◌+◌, ◌<◌, ◌==◌, ◌∙◌, ◌∷◌, ◌≡◌}
-use Rattle.store_model.proofs.Common.{creation_at, creation_from, Equal, found_made, Greater, is_eq, is_lt, IsSoundStore, IsWithin-refl, Key, Less, Made, nat_cmp, nat_tests, NoneFoundAtStart, origin_from, origin_of, start_of, Store, unsigned_tied}
+use Rattle.store_model.proofs.{Common.creation_at, Common.creation_from, Common.Equal, Common.found_made, Common.Greater, Common.is_eq, Common.is_lt, Common.IsSoundStore, Common.IsWithin-refl, Common.Key, Common.Less, Common.Made, Common.nat_cmp, Common.nat_tests, Common.NoneFoundAtStart, Common.origin_from, Common.origin_of, Common.start_of, Common.Store, Common.unsigned_tied, Origin.Tracks}
 use Rattle.std.specs.Prelude.{map as each}
-use Rattle.std.specs.declared.cmp.Ordering.{Ordering}
+use Rattle.std.specs.{declared.cmp.Ordering.Ordering, FinMap.Entries.below_all}
 use Rattle.std.specs.FinMap as map
-use Rattle.std.specs.FinMap.Entries.{below_all}
-use Rattle.store_model.proofs.Origin.{Tracks}
 
 abbrev KeyEntry : Type 0
 KeyEntry = ℕ × Key

@@ -1,11 +1,8 @@
 -- No chain of copies gains a flag or an algorithm, over every history.
 use Rattle.std.proofs.Common.{List, Option, [], refl, ℕ, ◌++◌, ◌∷◌}
-use Rattle.store_model.proofs.Common.{CopiesGainNothing, Entry, FaultMark, IsCaller, IsSound, Made, Request, Served, Service, counted, destroyed, found_made, made_after, made_by, outcome_of, replay, serve, source_of}
+use Rattle.store_model.proofs.{Common.CopiesGainNothing, Common.Entry, Common.FaultMark, Common.IsCaller, Common.IsSound, Common.Made, Common.Request, Common.Served, Common.Service, Common.counted, Common.destroyed, Common.found_made, Common.made_after, Common.made_by, Common.outcome_of, Common.replay, Common.serve, Common.source_of, Found.found_tracks, Served.request_shape, SoundService.stays}
 use Rattle.std.specs.List.{AllByRecursion}
 use Rattle.store_model.proofs.Origin.{Tracks, TracksReply, none_tracks, counted_tracks, created_source, created_tracks, destroyed_tracks}
-use Rattle.store_model.proofs.Found.{found_tracks}
-use Rattle.store_model.proofs.Served.{request_shape}
-use Rattle.store_model.proofs.SoundService.{stays}
 
 -- the creations so far, beside a service after a request
 abbrev TracksServed : List Made → Option ℕ → Served → Type 0

@@ -1,10 +1,8 @@
 -- The keys after a request: each stays until it is destroyed, and each new one obeys the rules.
 use Rattle.std.proofs.Common.{Bool, List, None, Ok, Option, Some, ap, arith, cond, false, inl, inr, refl, subst, sym, true, ℕ, ◌==◌, ◌∙◌, ◌≡◌, ◌⊎◌}
-use Rattle.store_model.proofs.Common.{Attributes, Destroy, IsSoundStore, Key, KeysStay, OnStore, Request, RulesAreFollowed, Store, after_rules, created, destroyed, first_row, identified, nat_tests, new_id, new_key, room_for_key_rows}
+use Rattle.store_model.proofs.{Common.Attributes, Common.Destroy, Common.IsSoundStore, Common.Key, Common.KeysStay, Common.OnStore, Common.Request, Common.RulesAreFollowed, Common.Store, Common.after_rules, Common.created, Common.destroyed, Common.first_row, Common.identified, Common.nat_tests, Common.new_id, Common.new_key, Common.room_for_key_rows, Served.request_shape}
 use Rattle.std.specs.FinMap as map
-use Rattle.store_model.proofs.Obeyed.{AreObeyed, obeyed_again, identified_obeyed}
-use Rattle.store_model.proofs.Sound.{put, taken, left, new_is_free}
-use Rattle.store_model.proofs.Served.{request_shape}
+use Rattle.store_model.proofs.{Obeyed.AreObeyed, Obeyed.obeyed_again, Obeyed.identified_obeyed, Sound.put, Sound.taken, Sound.left, Sound.new_is_free}
 
 -- EACH STAYS
 

@@ -1,12 +1,7 @@
 -- What a request that doesn't succeed leaves.
 use Rattle.std.proofs.Common.{None, Option, Some, ap, arith, false, refl, slice_set, sym, true, ℕ, ◌+◌, ◌∙◌, ◌≡◌}
 use Rattle.store_model.proofs.Common.{Abort, Active, AeadSetup, After, Attributes, BadState, Call, CipherSetup, DerivationSetup, DerivationWork, HandleCall, HandleOperation, HashSetup, Held, Inactive, InputKey, MacSetup, OnAead, OnCipher, OnDerivation, OnHandle, OnHash, OnMac, OnStore, Operation, OutputKey, Own, Plain, RefusalsLeaveAll, RefusalsLeaveBuffers, RefusedSetupsLeaveAll, Served, Service, Status, Success, UnreadyHandlesStay, Work, applied, counted, input_key, is_active, is_inactive, is_setup, left_all, left_by, next_random, on_store, operation_of, output_key, own_of, refusal, serve, set_up, stepped, untouched, with_drawn, with_operation, with_own, words_used}
-use Rattle.store_model.proofs.DrawnBytes.{length-random}
-use Rattle.store_model.proofs.StoreShape.{store_shape}
-use Rattle.store_model.proofs.Operations.{same_own, same_service}
-use Rattle.store_model.proofs.Buffers.{LeavesBuffer}
-use Rattle.store_model.proofs.Served.{stays_put, setup_fails, request_shape}
-use Rattle.store_model.proofs.Shape.{shape}
+use Rattle.store_model.proofs.{DrawnBytes.length-random, StoreShape.store_shape, Operations.same_own, Operations.same_service, Buffers.LeavesBuffer, Served.stays_put, Served.setup_fails, Served.request_shape, Shape.shape}
 
 -- no word is drawn
 no_words : (n drawn : ℕ) → n ≡ 0 → drawn + words_used n ≡ drawn

@@ -2,8 +2,7 @@
 use Rattle.std.proofs.Common.{Bool, IfSome, List, None, Option, Some, [], ap, arith, cond, false, inl, inr, refl, subst, sym, true, ℕ, ◌++◌, ◌+◌, ◌<◌, ◌==◌, ◌∙◌, ◌∷◌, ◌≡◌, ◌⊎◌}
 use Rattle.store_model.proofs.Common.{Attributes, counted, created, creation_at, creation_from, destroyed, HasOrigin, identified, is_volatile, IsFilled, IsSoundStore, IsWithin, IsWithin-implied, IsWithin-refl, IsWithin-trans, Key, key_answered, Made, meet-within_source, meet_of, nat_cmp, nat_tests, new_id, new_key, option_map_or, origin_from, origin_of, Policy, Reply, Request, source_of, Store, unless-ok, with_implied}
 use Rattle.std.specs.FinMap as map
-use Rattle.store_model.proofs.StoreShape.{MakesNone, IsCopied}
-use Rattle.store_model.proofs.Sound.{put, taken, left}
+use Rattle.store_model.proofs.{StoreShape.MakesNone, StoreShape.IsCopied, Sound.put, Sound.taken, Sound.left}
 
 -- the creations so far, beside the store that they led to
 pub record Tracks (store : Store) (made : List Made) : Type 0 where

@@ -1,8 +1,7 @@
 -- A request draws few words, and leaves other callers, other handles of its caller, the settings, and where it changes no key the store.
 use Rattle.std.proofs.Common.{Bool, List, Some, ap, cond, false, inl, inr, refl, slice_index_or, slice_set, sym, true, ℕ, ◌+◌, ◌∙◌, ◌≡◌, ◌≤◌, ◌⊎◌}
 use Rattle.store_model.proofs.Common.{Attributes, counted, CountsOnce, created, destroyed, DrawsFewWords, FaultMark, get_or-set_other, handle_of, is_volatile, LeavesOtherCallers, LeavesOtherHandles, LeavesSettings, LeavesShared, made_of, may_change_keys, operation_of, Own, own_of, Request, serve, Served, Service, Store, with_own}
-use Rattle.store_model.proofs.Operations.{drawn_most, other_own, operations_same, other_handle}
-use Rattle.store_model.proofs.Served.{IsOwnAfter, SetsOne, request_shape}
+use Rattle.store_model.proofs.{Operations.drawn_most, Operations.other_own, Operations.operations_same, Operations.other_handle, Served.IsOwnAfter, Served.SetsOne, Served.request_shape}
 
 -- OTHER CALLERS
 

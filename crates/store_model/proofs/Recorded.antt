@@ -3,9 +3,7 @@ use Rattle.std.proofs.Common.{Bool, Err, IfOk, List, None, Ok, Result, [], arith
 use Rattle.store_model.proofs.Common.{Aes256, AlreadyExists, Attributes, InsufficientStorage, InvalidArgument, IsWithin, IsWithin-refl, IsWithin-trans, Keep, KeyLimit, Label, NoCopy, NoEcb, NoExport, NotPermitted, NotSupported, Refuse, Rows, Status, Store, Verdict, after_rules, after_verdict, attribute_rows, checked, filled, first_row, has_secure_element, is_volatile, names_ecb, narrowed, nat_tests, permits_size, recorded_of, room_for_key_rows, unless, unless-err, unless-ok, with_implied}
 use Rattle.psa_status.specs.Rows.{◌>>=◌}
 use Rattle.policy_rules.proofs.Rules.{narrowed-within}
-use Rattle.store_model.proofs.Filled.{filled-checked, only_usage-checked}
-use Rattle.store_model.proofs.Obeyed.{AreObeyed, rules_obeyed}
-use Rattle.store_model.proofs.Tables.{AllRows, none_holds, refused_by}
+use Rattle.store_model.proofs.{Filled.filled-checked, Filled.only_usage-checked, Obeyed.AreObeyed, Obeyed.rules_obeyed, Tables.AllRows, Tables.none_holds, Tables.refused_by}
 
 -- ONE ANSWER AFTER ANOTHER
 

@@ -1,14 +1,7 @@
 -- The shape of any request: on the store or on a handle, whether a device failed or not.
 use Rattle.std.proofs.Common.{Bool, List, None, Some, ap, arith, cond, false, inl, inr, length, refl, subst, sym, true, ℕ, ◌+◌, ◌∙◌, ◌≡◌, ◌≤◌, ◌⊎◌}
 use Rattle.store_model.proofs.Common.{Attributes, BadState, Call, Corrupt, DataCorrupt, Destroy, FaultMark, HandleCall, HandleOperation, Hardware, HardwareFailure, InError, IsSound, IsSoundOperation, OnHandle, OnStore, Outcome, Own, Plain, Reply, Request, Served, Service, Storage, StorageFailure, Store, counted, created, destroyed, done, failed_step, handle_of, is_setup, may_change_keys, next_derived, next_random, on_store, operation_of, own_of, plain_step, refusal, serve, source_of, with_drawn, with_operation, with_own, without, words_used}
-use Rattle.store_model.proofs.DrawnBytes.{length-random}
-use Rattle.store_model.proofs.Operations.{Sets, same_operation, same_service}
-use Rattle.store_model.proofs.Derivations.{without_sound}
-use Rattle.store_model.proofs.DerivedBytes.{length-next_derived}
-use Rattle.store_model.proofs.Recorded.{MayBeKept}
-use Rattle.store_model.proofs.Steps.{held_derivation}
-use Rattle.store_model.proofs.StoreShape.{IsCopied, IsQuiet, refusal_quiet, spoiled_quiet, store_shape}
-use Rattle.store_model.proofs.Shape.{shape}
+use Rattle.store_model.proofs.{DrawnBytes.length-random, Operations.Sets, Operations.same_operation, Operations.same_service, Derivations.without_sound, DerivedBytes.length-next_derived, Recorded.MayBeKept, Steps.held_derivation, StoreShape.IsCopied, StoreShape.IsQuiet, StoreShape.refusal_quiet, StoreShape.spoiled_quiet, StoreShape.store_shape, Shape.shape}
 
 -- an operation that stays
 pub stays_put : (service : Service) (caller handle : ℕ) (operation : HandleOperation) → operation ≡ operation_of service caller handle →

@@ -3,10 +3,7 @@ use Rattle.std.proofs.Common.{Bool, Err, List, None, Ok, Option, Result, Some, [
 use Rattle.store_model.proofs.Common.{Abort, Active, AeadSetup, AeadWork, After, AlreadyExists, Attributes, Authenticating, BadState, CipherSetup, CipherWork, Ciphering, Class, DerivationSetup, DerivationWork, Deriving, HandleCall, HandleOperation, HashSetup, HashWork, Hashing, Held, Inactive, InputKey, InsufficientData, InsufficientStorage, InvalidArgument, InvalidHandle, IsSoundHeld, IsSoundStore, IsSoundUse, IsSoundWork, Key, KeyCreation, KeyLimit, MacSetup, MacWork, NotPermitted, NotSupported, OnAead, OnCipher, OnDerivation, OnHandle, OnHash, OnMac, Operation, OutputKey, Rows, Sealing, Served, Service, Status, Store, Work, aead_part, aead_step, aead_work, applied, bytes_of_key, cipher_part, cipher_step, cipher_usage, cipher_work, class_rows, creation_of, derivation_part, derivation_step, derivation_work, derived_key, derived_key_of, done, ends, fails, first_row, goes_on, handle_step, hash_part, hash_step, hash_work, held_after, input_key, input_key_rows, is_active, is_alive, is_inactive, is_ready, key_of_operation, left_by, mac_part, mac_step, mac_usage, mac_work, may_change_keys, next_random, operation_of, output_key, output_key_rows, part_of, set_up, stated_bytes, stays, stepped, underived, unless, unless-ok, untouched, use_rows, with_key}
 use Rattle.std.specs.FinMap as map
 use Rattle.alg_encoding.specs.declared.table.Class.TheVariants as class
-use Rattle.store_model.proofs.Tables.{NoFault, RefusesPlainly, none_holds, refuses_plainly}
-use Rattle.store_model.proofs.StoreShape.{used_plainly}
-use Rattle.store_model.proofs.Recorded.{MayBeKept, OfRefusals, then_ok, then_refused, unless_refused, recorded, recorded_refused}
-use Rattle.store_model.proofs.Buffers.{refusal_leaves}
+use Rattle.store_model.proofs.{Tables.NoFault, Tables.RefusesPlainly, Tables.none_holds, Tables.refuses_plainly, StoreShape.used_plainly, Recorded.MayBeKept, Recorded.OfRefusals, Recorded.then_ok, Recorded.then_refused, Recorded.unless_refused, Recorded.recorded, Recorded.recorded_refused, Buffers.refusal_leaves}
 use Rattle.store_model.proofs.Steps.{IsStep, Loses, held_derivation, begun, fails_step, unless_step, alive_step, ends_step, hash_is_step, mac_is_step, cipher_is_step, aead_is_step}
 use Rattle.store_model.proofs.Derivations.{derivation_is_step, derivation_lost, exhausted_step, key_sound, key_due, start_sound, not_below, flipped}
 

@@ -1,10 +1,9 @@
 -- Each call on the store keeps it sound.
-use Rattle.std.proofs.Common.{Bool, List, None, Ok, Option, Some, ap, arith, cond, false, is_some, length, nat_le, nat_lt, not, refl, slice_index_or, slice_set, subst, sym, true, ℕ, ◌&&◌, ◌*◌, ◌+◌, ◌/◌, ◌<◌, ◌==◌, ◌^◌, ◌||◌, ◌∙◌, ◌≡◌, ◌≤◌}
-use Rattle.store_model.proofs.Common.{as_stated, Attributes, checked, count_persistent, counted, created, destroyed, first_row, get_or-set_other, get_or-set_same, has_secure_element, identified, is_volatile, is_volatile_of, IsSoundKey, IsSoundStore, IsVolatileOf, Key, length-set, live_volatile, made_of, nat_cmp, nat_cmp_total, nat_tests, new_id, new_key, next_volatile, room_for_key_rows, Store, unsigned_tied}
+use Rattle.std.proofs.Common.{Bool, List, None, Ok, Option, Some, ap, arith, cond, eqb-true, false, is_some, length, nat_le, nat_lt, not, refl, slice_index_or, slice_set, subst, sym, true, ℕ, ◌&&◌, ◌*◌, ◌+◌, ◌/◌, ◌<◌, ◌==◌, ◌^◌, ◌||◌, ◌∙◌, ◌≡◌, ◌≤◌}
+use Rattle.store_model.proofs.Common.{as_stated, Attributes, checked, count_in_range, count_persistent, is_in_range, is_low, is_per_range, persistent_limit, range_limit, counted, created, destroyed, first_row, get_or-set_other, get_or-set_same, has_secure_element, identified, is_volatile, is_volatile_of, IsSoundKey, IsSoundStore, IsVolatileOf, Key, length-set, live_volatile, made_of, nat_cmp, nat_cmp_total, nat_tests, new_id, new_key, next_volatile, room_for_key_rows, Store, unsigned_tied}
 use Rattle.std.specs.FinMap as map
-use Rattle.store_model.proofs.Tables.{none_holds}
-use Rattle.store_model.proofs.Recorded.{MayBeKept, IsStated, stated_id}
-use Rattle.store_model.proofs.Live.{len_kept-insert, len_kept-remove}
+use Rattle.store_model.proofs.{Tables.none_holds, Recorded.MayBeKept, Recorded.IsStated, Recorded.stated_id, Live.len_kept-insert, Live.len_kept-remove}
+use Rattle.std.proofs.lemmas.Bool.{and_parts}
 
 pub put : (m : map.FinMap nat_cmp Key) (k : ℕ) (v : Key) (q : ℕ) → map.get (map.insert m k v) q ≡ cond (q == k) (Some v) (map.get m q)
 put m k v q = map.get-insert nat_cmp_total m k v q ∙ ap (λ b. cond b (Some v) (map.get m q)) (unsigned_tied q k)
@@ -53,21 +52,23 @@ counted_sound store h = record {
   made = h.made;
   live = h.live;
   persistent = h.persistent;
+  ranges = h.ranges;
   callers = h.callers;
 }
 
 -- A CREATION
 
 -- what the rows of a creation's room say
-abbrev pub Room : (volatile : Bool) → (live made count : ℕ) → Option Key → Type 0
-Room true live made count there = (live < 16) × (made < 2 ^ 20)
-Room false live made count there = (there ≡ None) × (count < 512)
+abbrev pub Room : (volatile by_range : Bool) → (live made count range : ℕ) → Option Key → Type 0
+Room true by_range live made count range there = (live < 16) × (made < 2 ^ 20)
+Room false by_range live made count range there = (there ≡ None) × (count < persistent_limit) × (by_range ≡ true → range < range_limit)
 
-has_room : (volatile : Bool) (live made count : ℕ) (there : Option Key) → (volatile && (nat_le 16 live || nat_le (2 ^ 20) made)) ≡ false → (not volatile && is_some there) ≡ false →
-    (not volatile && nat_le 512 count) ≡ false → Room volatile live made count there
-has_room true live made count there h i j = (grind (arith, nat_tests), grind (arith, nat_tests))
-has_room false live made count None h i j = (refl, grind (arith, nat_tests))
-has_room false live made count (Some key) h i j = cc
+has_room : (volatile by_range : Bool) (live made count range : ℕ) (there : Option Key) → (volatile && (nat_le 16 live || nat_le (2 ^ 20) made)) ≡ false → (not volatile && is_some there) ≡ false →
+    (not volatile && (nat_le persistent_limit count || (by_range && nat_le range_limit range))) ≡ false → Room volatile by_range live made count range there
+has_room true by_range live made count range there h i j = (grind (arith, nat_tests), grind (arith, nat_tests))
+has_room false true live made count range None h i j = (refl, grind (arith, nat_tests), λ is. grind (arith, nat_tests))
+has_room false false live made count range None h i j = (refl, grind (arith, nat_tests), λ is. cc)
+has_room false by_range live made count range (Some key) h i j = cc
 
 same_place : (c caller : ℕ) (made : List ℕ) (n : ℕ) → caller < length made → c ≡ caller → slice_index_or (slice_set made caller n) c 0 ≡ n
 same_place c caller made n h e = ap (λ k. slice_index_or (slice_set made caller n) k 0) e ∙ get_or-set_same made caller n 0 h
@@ -112,11 +113,11 @@ fresh_at store caller h below (Some key) e = absurd (no_such (is_volatile key.at
 
 -- there is room for a new key of either kind
 abbrev pub RoomFor : Store → ℕ → Attributes → Bool → Type 0
-RoomFor store caller kept volatile = Room volatile (live_volatile store.keys caller) (made_of store caller) (count_persistent store.keys) (map.get store.keys kept.id.0)
+RoomFor store caller kept volatile = Room volatile (is_per_range store.settings.limits) (live_volatile store.keys caller) (made_of store caller) (count_persistent store.keys) (count_in_range store.keys (kept.id.0 / 2 ^ 26)) (map.get store.keys kept.id.0)
 
 room_for : (store : Store) (caller : ℕ) (kept : Attributes) → first_row (room_for_key_rows store caller kept) ≡ None → RoomFor store caller kept (is_volatile kept)
 room_for store caller kept h =
-    let rows = room_for_key_rows store caller kept in has_room (is_volatile kept) _ _ _ _ (none_holds rows 0 h) (none_holds rows 1 h) (none_holds rows 2 h)
+    let rows = room_for_key_rows store caller kept in has_room (is_volatile kept) (is_per_range store.settings.limits) _ _ _ _ _ (none_holds rows 0 h) (none_holds rows 1 h) (none_holds rows 2 h)
 
 pub room_of : (store : Store) (caller : ℕ) (kept : Attributes) (volatile : Bool) → is_volatile kept ≡ volatile → first_row (room_for_key_rows store caller kept) ≡ None → RoomFor store caller kept volatile
 room_of store caller kept volatile is h = subst (RoomFor store caller kept) is (room_for store caller kept h)
@@ -203,9 +204,15 @@ module _ (store : Store) (caller : ℕ) (kept : Attributes) (bytes : List ℕ) (
       same_caller (id_of true / 2 ^ 20) c caller (live_volatile store.keys c) (live_volatile store.keys caller) t (let l = r.1 in omega arith) (λ same. ap (live_volatile store.keys) same) r.0
   live_before false r s c t = absurd (of_volatile kept.id.0 c s.1 t)
 
-  persistent_before : (volatile : Bool) → RoomFor store caller kept volatile → nat_lt (id_of volatile) 0x40000000 ≡ true → count_persistent store.keys < 512
+  persistent_before : (volatile : Bool) → RoomFor store caller kept volatile → nat_lt (id_of volatile) 0x40000000 ≡ true → count_persistent store.keys < persistent_limit
   persistent_before true r t = absurd (of_persistent caller (made_of store caller) t)
   persistent_before false r t = r.1
+
+  range_before : (volatile : Bool) → RoomFor store caller kept volatile → is_per_range store.settings.limits ≡ true → (range : ℕ) → is_in_range range (id_of volatile) ≡ true → count_in_range store.keys range < range_limit
+  range_before true r per range t = absurd (of_persistent caller (made_of store caller) (and_parts (is_low (id_of true)) (id_of true / 2 ^ 26 == range) t).0)
+  range_before false r per range t =
+      let same : kept.id.0 / 2 ^ 26 ≡ range = eqb-true (kept.id.0 / 2 ^ 26) range (and_parts (is_low kept.id.0) (kept.id.0 / 2 ^ 26 == range) t).1 in
+      subst (λ (n : ℕ). count_in_range store.keys n < range_limit) same (r.2 per)
 
   new_volatile : is_volatile kept ≡ true → IsVolatileOf after id caller
   new_volatile v = record {
@@ -242,8 +249,10 @@ module _ (store : Store) (caller : ℕ) (kept : Attributes) (bytes : List ℕ) (
         made = few_made (is_volatile kept) room;
         live = λ c. few_step 16 (is_volatile_of c id) (live_volatile after.keys c) (live_volatile store.keys c) (len_kept-insert (is_volatile_of c) store.keys id new none) (h.live c)
             (live_before (is_volatile kept) room stated c);
-        persistent = few_step 512 (nat_lt id 0x40000000) (count_persistent after.keys) (count_persistent store.keys) (len_kept-insert (λ k. nat_lt k 0x40000000) store.keys id new none) h.persistent
+        persistent = few_step persistent_limit (is_low id) (count_persistent after.keys) (count_persistent store.keys) (len_kept-insert is_low store.keys id new none) h.persistent
             (persistent_before (is_volatile kept) room);
+        ranges = λ per range. few_step range_limit (is_in_range range id) (count_in_range after.keys range) (count_in_range store.keys range) (len_kept-insert (is_in_range range) store.keys id new none) (h.ranges per range)
+            (range_before (is_volatile kept) room per range);
         callers = same_length (is_volatile kept) ∙ h.callers;
       }
 
@@ -259,6 +268,7 @@ destroyed_sound store id h = record {
   numbers = λ q r key same e f g. h.numbers q r key same (left (q == id) _ key (sym (taken store.keys id q) ∙ e)) (left (r == id) _ same (sym (taken store.keys id r) ∙ f)) g;
   made = h.made;
   live = λ c. let few = h.live c in let fewer = len_kept-remove (is_volatile_of c) store.keys id in omega arith;
-  persistent = let few = h.persistent in let fewer = len_kept-remove (λ k. nat_lt k 0x40000000) store.keys id in omega arith;
+  persistent = let few = h.persistent in let fewer = len_kept-remove is_low store.keys id in omega arith;
+  ranges = λ per range. let few = h.ranges per range in let fewer = len_kept-remove (is_in_range range) store.keys id in omega arith;
   callers = h.callers;
 }

@@ -2,12 +2,8 @@
 use Rattle.std.proofs.Common.{inl, inr, ◌⊎◌, Bool, None, Option, Some, ap, arith, false, length, refl, subst, sym, true, ℕ, ◌==◌, ◌∙◌, ◌≡◌}
 use Rattle.store_model.proofs.Common.{Active, AliveByNumber, HandleOperation, HasNumber, InError, Inactive, IsSound, IsSoundCreation, IsSoundOperation, IsSoundStore, IsSoundUse, Key, KeyCreation, Own, Request, Service, StartsSound, StaysSound, Store, counted, created, destroyed, key_of_operation, nat_tests, operation_of, option_map_or, own_of, start_of, with_own}
 use Rattle.std.specs.FinMap as map
-use Rattle.store_model.proofs.Recorded.{MayBeKept}
-use Rattle.store_model.proofs.Starts.{store_starts}
-use Rattle.store_model.proofs.Sound.{counted_sound, created_sound, destroyed_sound}
-use Rattle.store_model.proofs.Follows.{Follows, counted_follows, created_follows, destroyed_follows, operation_follows}
+use Rattle.store_model.proofs.{Recorded.MayBeKept, Starts.store_starts, Sound.counted_sound, Sound.created_sound, Sound.destroyed_sound, Follows.Follows, Follows.counted_follows, Follows.created_follows, Follows.destroyed_follows, Follows.operation_follows, Served.IsOwnAfter, Served.SetsOne, Served.request_shape}
 use Rattle.store_model.proofs.Operations.{any_operation, operations_same, same_callers, same_handles, set_length, start_own, start_operation}
-use Rattle.store_model.proofs.Served.{IsOwnAfter, SetsOne, request_shape}
 
 -- the store goes on, and with it what is a caller's own
 own_sound : (service : Service) (after : Store) (caller : ℕ) (request : Request) (own : Own) → IsOwnAfter service caller request own → Follows service.store after → IsSoundStore after → IsSound service →
@@ -41,8 +37,8 @@ stays service caller request mark first last h = request_shape service caller (�
 })
 
 pub starts : StartsSound
-starts settings found are few = record {
-  store = store_starts settings found are few;
+starts settings found are few room = record {
+  store = store_starts settings found are few room;
   operations = start_operation (IsSoundOperation (start_of settings found)) (start_of settings found) tt;
   handles = start_own (λ (o : Own). length o.operations ≡ 5) (start_of settings found) refl;
   callers = refl;

@@ -1,9 +1,9 @@
 -- The keys that an opening finds make a sound store.
-use Rattle.std.proofs.Common.{Bool, List, None, Some, [], ap, arith, cond, false, find, length, nat_lt, refl, replicate, slice_index_or, subst, suc, sym, true, zero, ℕ, ◌+◌, ◌<◌, ◌==◌, ◌∙◌, ◌∷◌, ◌≡◌, ◌≤◌}
-use Rattle.store_model.proofs.Common.{AreFoundKeys, found_from, has_secure_element, is_volatile, is_volatile_of, IsChecked, IsSoundStore, Key, nat_cmp, nat_tests, OpenedKey, Settings, start_of, Store}
+use Rattle.std.proofs.Common.{Bool, List, None, Some, [], ap, arith, cond, count_by, false, find, length, refl, replicate, slice_index_or, subst, suc, sym, true, zero, ℕ, ◌+◌, ◌<◌, ◌==◌, ◌∙◌, ◌∷◌, ◌≡◌, ◌≤◌}
+use Rattle.store_model.proofs.Common.{HaveRoom, is_in_range, is_low, persistent_limit, AreFoundKeys, found_from, has_secure_element, is_volatile, is_volatile_of, IsChecked, IsSoundStore, Key, nat_cmp, nat_tests, OpenedKey, Settings, start_of, Store}
 use Rattle.std.specs.FinMap as map
-use Rattle.store_model.proofs.Sound.{put, put_apart, low_id, of_volatile}
-use Rattle.store_model.proofs.Live.{len_kept-insert, len_kept-empty}
+use Rattle.std.proofs.lemmas.List.Sums.{sum_by-cons}
+use Rattle.store_model.proofs.{Sound.put, Sound.put_apart, Sound.low_id, Sound.of_volatile, Live.len_kept-insert, Live.len_kept-empty}
 
 no_key_at : (id : ℕ) (key : Key) → map.get (map.empty {X = Key} {R = nat_cmp}) id ≡ Some key → ⊥
 no_key_at id key e = let none = sym (map.get-empty nat_cmp id) ∙ e in cc
@@ -70,6 +70,17 @@ module _ (store : Store) (p : ℕ → Bool) where
   at_most_all n [] are = let e = len_kept-empty Key p in omega arith
   at_most_all n (k ∷ ks) are = one_at_most (p k.attributes.id.0) _ _ (length ks) (kept_after n k ks are) (at_most_all (n + 1) ks are.3)
 
+  one_more_counted : (b : Bool) (rest count : ℕ) → rest ≡ count → cond b (rest + 1) rest ≡ cond b 1 0 + count
+  one_more_counted true rest count same = omega (arith, same)
+  one_more_counted false rest count same = omega (arith, same)
+
+  -- exactly those are counted that pass
+  pub all_counted : (n : ℕ) (found : List OpenedKey) → AreFoundKeys store found → map.len (map.retain_keys (found_from n found) p) ≡ count_by (λ key. p key.attributes.id.0) found
+  all_counted n [] are = len_kept-empty Key p
+  all_counted n (k ∷ ks) are =
+      kept_after n k ks are ∙ one_more_counted (p k.attributes.id.0) _ (count_by (λ (key : OpenedKey). p key.attributes.id.0) ks) (all_counted (n + 1) ks are.3)
+      ∙ sym (sum_by-cons (λ (key : OpenedKey). cond (p key.attributes.id.0) 1 0) k ks)
+
 none_live : (store : Store) (c n : ℕ) (found : List OpenedKey) → AreFoundKeys store found → map.len (map.retain_keys (found_from n found) (is_volatile_of c)) ≡ 0
 none_live store c n [] are = len_kept-empty Key (is_volatile_of c)
 none_live store c n (k ∷ ks) are =
@@ -85,8 +96,8 @@ none_made zero c = refl
 none_made (suc n) zero = refl
 none_made (suc n) (suc c) = none_made n c
 
-pub store_starts : (settings : Settings) (found : List OpenedKey) → AreFoundKeys (start_of settings found) found → length found ≤ 512 → IsSoundStore (start_of settings found)
-store_starts settings found are few =
+pub store_starts : (settings : Settings) (found : List OpenedKey) → AreFoundKeys (start_of settings found) found → length found ≤ persistent_limit → HaveRoom settings.limits found → IsSoundStore (start_of settings found)
+store_starts settings found are few room =
     let start = start_of settings found in
     record {
       keys = λ id key e.
@@ -95,6 +106,7 @@ store_starts settings found are few =
       numbers = apart start 0 found are;
       made = λ c. let e = none_made 17 c in omega arith;
       live = λ c. let e = none_live start c 0 found are in omega arith;
-      persistent = let l = at_most_all start (λ id. nat_lt id 0x40000000) 0 found are in omega arith;
+      persistent = let l = at_most_all start is_low 0 found are in omega arith;
+      ranges = λ per range. let all = all_counted start (is_in_range range) 0 found are in let few = room per range in omega (arith, all, few);
       callers = refl;
     }

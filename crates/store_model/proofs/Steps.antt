@@ -1,9 +1,7 @@
 -- What a step of a family makes of a handle's operation.
 use Rattle.std.proofs.Common.{Bool, List, None, Option, Some, [], ap, arith, bytes_eq, cond, false, length, not, refl, sym, true, ℕ, ◌++◌, ◌∷◌, ◌≡◌, ◌≤◌}
 use Rattle.store_model.proofs.Common.{Active, AeadFinish, AeadGenerateNonce, AeadSetLengths, AeadSetNonce, AeadStep, AeadUpdate, AeadUpdateAd, AeadVerify, AeadWork, After, Authenticating, CipherFinish, CipherGenerateIv, CipherSetIv, CipherStep, CipherUpdate, CipherWork, Ciphering, DerivationWork, Deriving, HandleCall, HandleOperation, HashFinish, HashStep, HashUpdate, HashVerify, HashWork, Hashing, Held, InError, InvalidHandle, InvalidPadding, InvalidSignature, IsSoundOperation, IsSoundStore, IsSoundWork, KeyCreation, MacSignFinish, MacStep, MacUpdate, MacVerifyFinish, MacWork, OnAead, OnCipher, OnHash, OnMac, Reply, Sealing, Status, Store, Success, Work, aead_step, aead_update_rows, cipher_finish_rows, cipher_step, cipher_update_rows, done, ends, fails, generate_iv_rows, generate_nonce_rows, given, goes_on, hash_length_of, hash_of, hash_step, held_after, is_of_fault, last_length, last_part, left_by, mac_step, mode_of, nonce_length, room_rows, set_iv_rows, set_lengths_rows, set_nonce_rows, sign_rows, tag_bytes, total_rows, unless_failed, update_ad_rows, verify_rows, whole_rows, whole_text, with_live_key, work_tag}
-use Rattle.store_model.proofs.Buffers.{LeavesBuffer, refusal_leaves, spoiled_leaves}
-use Rattle.store_model.proofs.Tables.{NoFault, RefusesPlainly, refuses_plainly}
-use Rattle.store_model.proofs.StoreShape.{MakesNone}
+use Rattle.store_model.proofs.{Buffers.LeavesBuffer, Buffers.refusal_leaves, Buffers.spoiled_leaves, Tables.NoFault, Tables.RefusesPlainly, Tables.refuses_plainly, StoreShape.MakesNone}
 
 -- what a call on a handle makes of its operation, where it creates no key
 pub record IsStep (call : HandleCall) (store : Store) (before : HandleOperation) (after : After Held) : Type 0 where

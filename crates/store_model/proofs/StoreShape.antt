@@ -2,19 +2,13 @@
 use Rattle.std.proofs.Common.{Bool, Err, List, None, Ok, Option, Result, Some, ap, arith, bytes_eq, cond, drop, false, inl, inr, length, ok_or, refl, subst, sym, take, true, ℕ, ◌++◌, ◌-◌, ◌∙◌, ◌≡◌, ◌≤◌, ◌⊎◌}
 use Rattle.store_model.proofs.Common.{AeadDecrypt, AeadEncrypt, Attributes, attributes_reply, bytes_of_key, Call, CipherDecrypt, CipherEncrypt, Class, Computed, computed_unless, Copy, counted, created, created_unless, Ctr, decided, deciphered, Destroy, destroy_rows, destroyed, done, enciphered, Export, export_rows, first_row, Generate, GetAttributes, given, has_secure_element, hash_of, HashCompare, HashCompute, Import, InvalidArgument, InvalidHandle, InvalidPadding, InvalidSignature, is_ctr, is_of_fault, IsWithin, iv_length, Key, key_answered, mac_of, MacCompute, MacVerify, may_change_keys, meet_of, Mode, mode_of, OnStore, option_map, Outcome, plain_or_zeros, Policy, Purge, purge_reply, recorded_of, refusal, refused, replies, Reply, reply_unless, Request, source_of, spoiled, spoils, stated_bits_rows, stated_bytes, Status, Store, Success, tag_bytes, unless, unless-ok, use_rows, with_computed, with_implied}
 use Rattle.std.specs.FinMap as map
-use Rattle.store_model.specs.Draws.{Random}
-use Rattle.store_model.specs.Copies.{source_rows, copy_attributes, recorded_copy}
-use Rattle.store_model.specs.Generation.{generation_of, generated}
+use Rattle.store_model.specs.{Draws.Random, Copies.source_rows, Copies.copy_attributes, Copies.recorded_copy, Generation.generation_of, Generation.generated, Aeads.aead_text, Aeads.aead_tag, Aeads.sealed, Aeads.opened_text, Step.step}
 use Rattle.store_model.specs.Ciphers as ciphers
 use Rattle.store_model.specs.Hashes as hashes
 use Rattle.store_model.specs.Macs as macs
 use Rattle.store_model.specs.Aeads as aeads
 use Rattle.alg_encoding.specs.declared.table.Class.TheVariants.{Mac, Cipher, Aead}
-use Rattle.store_model.specs.Aeads.{aead_text, aead_tag, sealed, opened_text}
-use Rattle.store_model.specs.Step.{step}
-use Rattle.store_model.proofs.Buffers.{LeavesBuffer, refusal_leaves, spoiled_leaves}
-use Rattle.store_model.proofs.Tables.{NoFault, RefusesPlainly, refuses_plainly}
-use Rattle.store_model.proofs.Recorded.{MayBeKept, OfRefusals, then_ok, then_refused, unless_refused, recorded, recorded_refused, few_bytes}
+use Rattle.store_model.proofs.{Buffers.LeavesBuffer, Buffers.refusal_leaves, Buffers.spoiled_leaves, Tables.NoFault, Tables.RefusesPlainly, Tables.refuses_plainly, Recorded.MayBeKept, Recorded.OfRefusals, Recorded.then_ok, Recorded.then_refused, Recorded.unless_refused, Recorded.recorded, Recorded.recorded_refused, Recorded.few_bytes}
 
 -- a reply that answers no identifier
 abbrev pub MakesNone : Reply → Type 0

@@ -1,10 +1,6 @@
 -- A request in whose turn no device failed answers no failed device's status.
 use Rattle.std.proofs.Common.{refl, sym, ℕ, ◌∙◌}
-use Rattle.store_model.proofs.Common.{Corrupt, Hardware, MarksAlone, OnHandle, OnStore, Plain, Request, Service, Storage, next_random, own_of, plain_step}
-use Rattle.store_model.proofs.DrawnBytes.{length-random}
-use Rattle.store_model.proofs.Tables.{NoFault}
-use Rattle.store_model.proofs.StoreShape.{store_shape}
-use Rattle.store_model.proofs.Shape.{shape}
+use Rattle.store_model.proofs.{Common.Corrupt, Common.Hardware, Common.MarksAlone, Common.OnHandle, Common.OnStore, Common.Plain, Common.Request, Common.Service, Common.Storage, Common.next_random, Common.own_of, Common.plain_step, DrawnBytes.length-random, Tables.NoFault, StoreShape.store_shape, Shape.shape}
 
 pub answers_plainly : (service : Service) (caller : ℕ) (request : Request) → NoFault (plain_step service caller request).reply.status
 answers_plainly service caller (OnStore call) =

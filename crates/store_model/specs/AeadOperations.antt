@@ -1,10 +1,7 @@
 -- An AEAD in several parts.
 use Rattle.std.specs.Prelude.{ℕ, ◌+◌, ◌^◌, Bool, true, false, not, nat_lt, ◌&&◌, ◌||◌, ◌==◌, bytes_eq, List, [], ◌∷◌, ◌++◌, length, take, drop, Option, Some, None, is_some, if◌then◌else◌}
-use Rattle.store_model.specs.Common.{BadState, InvalidArgument, InvalidSignature, Rows, done, first_row, given, option_map_or, tag_bytes}
-use Rattle.store_model.specs.Aeads.{is_ccm, permits_nonce, permits_payload, aead_text, aead_tag}
-use Rattle.store_model.specs.Rules.{room_rows, total_limit}
+use Rattle.store_model.specs.{Common.BadState, Common.InvalidArgument, Common.InvalidSignature, Common.Rows, Common.done, Common.first_row, Common.given, Common.option_map_or, Common.tag_bytes, Aeads.is_ccm, Aeads.permits_nonce, Aeads.permits_payload, Aeads.aead_text, Aeads.aead_tag, Rules.room_rows, Rules.total_limit, CipherOperations.bytes_or_empty}
 use Rattle.store_model.specs.Operations.{Active, After, goes_on, ends, unless_failed}
-use Rattle.store_model.specs.CipherOperations.{bytes_or_empty}
 
 -- the bytes of associated data and of payload that were declared
 pub record Lengths : Type 0 where

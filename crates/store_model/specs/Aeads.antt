@@ -1,7 +1,6 @@
 -- AEADs of a whole message: the ciphertext, and the tag behind it.
 use Rattle.std.specs.Prelude.{ℕ, ◌+◌, ◌-◌, ◌*◌, ◌^◌, not, nat_lt, nat_le, ◌||◌, ◌&&◌, ◌==◌, bytes_eq, Bool, List, ◌∷◌, ◌++◌, length, take, drop, if◌then◌else◌}
-use Rattle.store_model.specs.Common.{InvalidArgument, InvalidSignature, Reply, Rows, aes_encrypt, base_of, ccm_tag, ccm_text, first_row, gcm_tag, gcm_text, given, reply_unless, spoiled, tag_bytes}
-use Rattle.store_model.specs.Rules.{room_rows, total_limit}
+use Rattle.store_model.specs.{Common.InvalidArgument, Common.InvalidSignature, Common.Reply, Common.Rows, Common.aes_encrypt, Common.base_of, Common.ccm_tag, Common.ccm_text, Common.first_row, Common.gcm_tag, Common.gcm_text, Common.given, Common.reply_unless, Common.spoiled, Common.tag_bytes, Rules.room_rows, Rules.total_limit}
 
 abbrev pub is_ccm : ℕ → Bool
 is_ccm alg = base_of alg == 0x05400100

@@ -1,10 +1,7 @@
 -- What an algorithm number computes, by the standards' definitions.
-use Rattle.std.specs.Prelude.{ℕ, ◌%◌, ◌/◌, ◌^◌, Bool, ◌==◌, List, take, if◌then◌else◌, Option}
-use Rattle.std.specs.Option.{option_map_or}
-use Rattle.sha2.specs.Sha256.{sha224, sha256}
-use Rattle.sha2.specs.Sha512.{sha384, sha512}
-use Rattle.alg_encoding.specs.Encoding.{base_of, tag_length_of}
-use Rattle.alg_encoding.specs.Table.{named_hash_length}
+use Rattle.std.specs.{Prelude.ℕ, Prelude.◌%◌, Prelude.◌/◌, Prelude.◌^◌, Prelude.Bool, Prelude.◌==◌, Prelude.List, Prelude.take, Prelude.if◌then◌else◌, Prelude.Option, Option.option_map_or}
+use Rattle.sha2.specs.{Sha256.sha224, Sha256.sha256, Sha512.sha384, Sha512.sha512}
+use Rattle.alg_encoding.specs.{Encoding.base_of, Encoding.tag_length_of, Table.named_hash_length}
 use Rattle.crypto_specs.specs.Prelude.{aes_encrypt, cmac, hmac}
 
 -- the hash function of an algorithm number's low byte (FIPS 180-4)

@@ -1,6 +1,5 @@
 -- Calls and replies.
-use Rattle.std.specs.Prelude.{ℕ, ◌-◌, ◌==◌, List, [], ◌++◌, length, drop, replicate, if◌then◌else◌}
-use Rattle.std.specs.Int.{w16, w32, w64, to_be_bytes}
+use Rattle.std.specs.{Prelude.ℕ, Prelude.◌-◌, Prelude.◌==◌, Prelude.List, Prelude.[], Prelude.◌++◌, Prelude.length, Prelude.drop, Prelude.replicate, Prelude.if◌then◌else◌, Int.w16, Int.w32, Int.w64, Int.to_be_bytes}
 use Rattle.psa_status.specs.declared.Status.{Status}
 use Rattle.key_attributes.specs.declared.Attributes.{Attributes}
 

@@ -1,10 +1,7 @@
 -- A cipher in several parts.
 use Rattle.std.specs.Prelude.{ℕ, ◌-◌, ◌*◌, ◌/◌, ◌%◌, Bool, not, ◌&&◌, ◌||◌, ◌==◌, List, [], ◌∷◌, ◌++◌, length, take, drop, Option, Some, None, is_some, if◌then◌else◌}
-use Rattle.store_model.specs.Common.{BadState, InvalidArgument, InvalidPadding, Rows, aes_decrypt, aes_encrypt, cbc_decrypt, cbc_encrypt, ctr_xor, done, ecb_decrypt, ecb_encrypt, first_row, given, option_map_or, spoiled}
-use Rattle.store_model.specs.Ciphers.{Mode, Ctr, CbcNoPadding, CbcPkcs7, EcbNoPadding, mode_of, iv_length, takes_whole_blocks, is_ciphertext_length, enciphered, deciphered}
-use Rattle.store_model.specs.Rules.{room_rows}
-use Rattle.store_model.specs.Operations.{InError, Active, After, goes_on, ends, unless_failed}
-use Rattle.store_model.specs.HashOperations.{total_rows}
+use Rattle.store_model.specs.{Common.BadState, Common.InvalidArgument, Common.InvalidPadding, Common.Rows, Common.aes_decrypt, Common.aes_encrypt, Common.cbc_decrypt, Common.cbc_encrypt, Common.ctr_xor, Common.done, Common.ecb_decrypt, Common.ecb_encrypt, Common.first_row, Common.given, Common.option_map_or, Common.spoiled, Rules.room_rows, HashOperations.total_rows}
+use Rattle.store_model.specs.{Ciphers.Mode, Ciphers.Ctr, Ciphers.CbcNoPadding, Ciphers.CbcPkcs7, Ciphers.EcbNoPadding, Ciphers.mode_of, Ciphers.iv_length, Ciphers.takes_whole_blocks, Ciphers.is_ciphertext_length, Ciphers.enciphered, Ciphers.deciphered, Operations.InError, Operations.Active, Operations.After, Operations.goes_on, Operations.ends, Operations.unless_failed}
 
 -- whether the text is encrypted, the algorithm, the key, the initialisation vector once it is there, and the text so far
 pub record CipherWork : Type 0 where

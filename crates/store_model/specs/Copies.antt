@@ -1,7 +1,6 @@
 -- COPY: a key of the source's bytes, with the meet of its policy and the stated one.
 use Rattle.std.specs.Prelude.{ℕ, Bool, not, ◌&&◌, ◌||◌, ◌==◌, [], ◌∷◌, length, bit_and, Option, Some, None, ok_or, Result, Err}
-use Rattle.store_model.specs.Common.{Attributes, InvalidArgument, InvalidHandle, Key, NotPermitted, NotSupported, Policy, Rows, Status, Store, first_row, location, meet_of, unless, ◌>>=◌}
-use Rattle.store_model.specs.Creation.{recorded_of}
+use Rattle.store_model.specs.{Common.Attributes, Common.InvalidArgument, Common.InvalidHandle, Common.Key, Common.NotPermitted, Common.NotSupported, Common.Policy, Common.Rows, Common.Status, Common.Store, Common.first_row, Common.location, Common.meet_of, Common.unless, Common.◌>>=◌, Creation.recorded_of}
 
 -- a stated number, where 0 states none, that isn't the source's
 abbrev pub differs : ℕ → ℕ → Bool

@@ -1,14 +1,14 @@
 -- Calls that create a key.
 use Rattle.std.specs.Prelude.{ℕ, ◌+◌, ◌/◌, ◌%◌, ◌^◌, not, nat_le, ◌==◌, ◌||◌, ◌&&◌, List, [], ◌∷◌, slice_set, is_some, Result, Ok, Err, if◌then◌else◌}
 use Rattle.std.specs.FinMap as map
-use Rattle.store_model.specs.Common.{AlreadyExists, Attributes, Identifier, InsufficientStorage, InvalidArgument, Key, KeyLimit, Outcome, Rows, Status, Store, Success, after_rules, checked, count_persistent, counted, first_row, has_secure_element, is_volatile, live_volatile, made_of, next_volatile, refused, unless, ◌>>=◌}
+use Rattle.store_model.specs.Common.{AlreadyExists, Attributes, Identifier, InsufficientStorage, InvalidArgument, Key, KeyLimit, Outcome, Rows, Status, Store, Success, after_rules, checked, counted, first_row, has_secure_element, is_volatile, lacks_room, live_volatile, made_of, next_volatile, refused, unless, ◌>>=◌}
 
--- a caller has at most 16 live volatile keys, and makes at most 2^20; persistent keys are at most 512, with an identifier each
+-- a caller has at most 16 live volatile keys, and makes at most 2^20; persistent keys are as many as the limits say, with an identifier each
 abbrev pub room_for_key_rows : Store → ℕ → Attributes → Rows
 room_for_key_rows store caller a =
     (is_volatile a && (nat_le 16 (live_volatile store.keys caller) || nat_le (2 ^ 20) (made_of store caller)), KeyLimit)
     ∷ (not (is_volatile a) && is_some (map.get store.keys a.id.0), AlreadyExists)
-    ∷ (not (is_volatile a) && nat_le 512 (count_persistent store.keys), InsufficientStorage)
+    ∷ (not (is_volatile a) && lacks_room store a.id.0, InsufficientStorage)
     ∷ []
 
 -- What a creation of a key with these stated attributes and so many bytes records, or its first refusal: the attributes

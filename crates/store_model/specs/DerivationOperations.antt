@@ -1,11 +1,8 @@
 -- A derivation of bytes and keys: HKDF (RFC 5869) and PBKDF2 (RFC 8018).
 use Rattle.std.specs.Prelude.{ℕ, ◌+◌, ◌-◌, ◌*◌, ◌/◌, ◌^◌, Bool, true, false, not, nat_lt, ◌&&◌, ◌||◌, ◌==◌, bytes_eq, List, [], ◌∷◌, ◌++◌, length, drop, Option, Some, None, is_some, if◌then◌else◌}
 use Rattle.store_model.specs.Common.{Attributes, BadState, InsufficientData, InvalidArgument, InvalidSignature, NotPermitted, NotSupported, Number, Reply, Rows, Success, digest, done, expand, extract, first_row, given, hash_block_length, hash_length_of, location, low_byte, pbkdf2, refusal}
-pub use Rattle.store_model.specs.Algorithms.{number_or_zero}
-use Rattle.store_model.specs.Operations.{After, goes_on, unless_failed}
-use Rattle.store_model.specs.CipherOperations.{bytes_or_empty}
-use Rattle.store_model.specs.Creation.{stated_bits_rows}
-pub use Rattle.store_model.specs.Creation.{stated_bytes}
+pub use Rattle.store_model.specs.{Algorithms.number_or_zero, Creation.stated_bytes}
+use Rattle.store_model.specs.{Operations.After, Operations.goes_on, Operations.unless_failed, CipherOperations.bytes_or_empty, Creation.stated_bits_rows}
 
 -- The algorithm; the cost, the salt, the secret or password and the info once they are there, and whether the
 -- secret came by a key; how many bytes of output were taken, and how many can still be.

@@ -1,9 +1,7 @@
 -- What is noted of a call in whose turn a device failed.
 use Rattle.std.specs.Prelude.{Bool, true, false}
-use Rattle.psa_status.specs.declared.Status.{Status}
-use Rattle.psa_status.specs.declared.Status.TheVariants.{StorageFailure, HardwareFailure, DataCorrupt}
-use Rattle.store_model.specs.Call.{Reply}
-use Rattle.store_model.specs.Outcome.{refusal, spoiled}
+use Rattle.psa_status.specs.{declared.Status.Status, declared.Status.TheVariants.StorageFailure, declared.Status.TheVariants.HardwareFailure, declared.Status.TheVariants.DataCorrupt}
+use Rattle.store_model.specs.{Call.Reply, Outcome.refusal, Outcome.spoiled}
 
 -- how the disk was used as it failed: read, or written. A persistent creation or destruction that failed
 -- at a write tells whether all cells that were in doubt before had been closed in its turn.

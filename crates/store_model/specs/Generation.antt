@@ -1,7 +1,6 @@
 -- GENERATE: a key of random bytes, as many as the stated bits say. A refusal draws no word.
 use Rattle.std.specs.Prelude.{ℕ, Result, Ok, Err}
-use Rattle.store_model.specs.Common.{Attributes, Outcome, Random, Status, Store, first_row, refused, unless, ◌>>=◌}
-use Rattle.store_model.specs.Creation.{recorded_of, created, stated_bytes, stated_bits_rows}
+use Rattle.store_model.specs.{Common.Attributes, Common.Outcome, Common.Random, Common.Status, Common.Store, Common.first_row, Common.refused, Common.unless, Common.◌>>=◌, Creation.recorded_of, Creation.created, Creation.stated_bytes, Creation.stated_bits_rows}
 
 abbrev pub generation_of : Store → ℕ → Attributes → Result Attributes Status
 generation_of store caller a = do

@@ -1,16 +1,10 @@
 -- Calls on a handle.
 use Rattle.std.specs.Prelude.{ℕ, Bool, true, false, not, nat_lt, ◌&&◌, ◌||◌, ◌==◌, List, [], ◌∷◌, ◌++◌, Option, Some, None, Result, Ok, Err}
-use Rattle.store_model.specs.Common.{Attributes, BadState, Class, InsufficientData, InvalidArgument, InvalidHandle, Key, NotPermitted, NotSupported, Outcome, Rows, Status, Store, done, first_row, is_opaque, may_use, option_map, unless, ◌>>=◌}
+use Rattle.store_model.specs.{Common.Attributes, Common.BadState, Common.Class, Common.InsufficientData, Common.InvalidArgument, Common.InvalidHandle, Common.Key, Common.NotPermitted, Common.NotSupported, Common.Outcome, Common.Rows, Common.Status, Common.Store, Common.done, Common.first_row, Common.is_opaque, Common.may_use, Common.option_map, Common.unless, Common.◌>>=◌, KeyUse.bytes_of_key}
 use Rattle.std.specs.FinMap as map
 use Rattle.alg_encoding.specs.declared.table.Class.TheVariants as class
-use Rattle.store_model.specs.Rules.{class_rows, use_rows, mac_usage, cipher_usage}
-use Rattle.store_model.specs.KeyUse.{bytes_of_key}
-use Rattle.store_model.specs.Creation.{recorded_of, created}
-use Rattle.store_model.specs.Operations.{Operation, Active, After, set_up, fails, ends, goes_on, unless_failed, with_live_key}
-use Rattle.store_model.specs.HashOperations.{HashStep, hash_work, hash_step}
-use Rattle.store_model.specs.MacOperations.{MacStep, mac_work, mac_step}
-use Rattle.store_model.specs.CipherOperations.{CipherStep, cipher_work, cipher_step}
-use Rattle.store_model.specs.AeadOperations.{AeadStep, aead_work, aead_step}
+use Rattle.store_model.specs.{Rules.class_rows, Rules.use_rows, Rules.mac_usage, Rules.cipher_usage, Creation.recorded_of, Creation.created, Operations.Operation, Operations.Active, Operations.After, Operations.set_up, Operations.fails, Operations.ends, Operations.goes_on, Operations.unless_failed, Operations.with_live_key, MacOperations.MacStep, MacOperations.mac_work, MacOperations.mac_step}
+use Rattle.store_model.specs.{HashOperations.HashStep, HashOperations.hash_work, HashOperations.hash_step, CipherOperations.CipherStep, CipherOperations.cipher_work, CipherOperations.cipher_step, AeadOperations.AeadStep, AeadOperations.aead_work, AeadOperations.aead_step}
 use Rattle.store_model.specs.DerivationOperations.{DerivationStep, DerivationWork, derivation_work, derivation_step, secret_step, key_step_rows, with_key, output_key_rows, exhausted, without, next_derived, stated_bytes}
 use Rattle.store_model.specs.Handles.{KeyCreation, Work, Hashing, Authenticating, Ciphering, Sealing, Deriving, Service, Served, own_of, operation_of, with_own, with_operation, next_random, applied, untouched, stepped, part_of, hash_part, mac_part, cipher_part, aead_part, derivation_part, key_of_operation, is_alive, held_after, held_with}
 

@@ -1,14 +1,9 @@
 -- The service: the store, and the operations of the callers' handles.
 use Rattle.std.specs.Prelude.{ℕ, ◌+◌, Bool, true, false, ◌==◌, List, replicate, get_or, slice_set, Option, Some, None}
-use Rattle.store_model.specs.Common.{BadState, Random, Reply, Status, Store, caller_count, counted, option_map_or, refusal}
+use Rattle.store_model.specs.{Common.BadState, Common.Random, Common.Reply, Common.Status, Common.Store, Common.caller_count, Common.counted, Common.option_map_or, Common.refusal, Operations.Operation, Operations.Inactive, Operations.InError, Operations.Active, Operations.After, Operations.with_live_key, HashOperations.HashWork, MacOperations.MacWork, CipherOperations.CipherWork}
 use Rattle.std.specs.FinMap as map
 use Rattle.random_streams.specs.RandomWords.{random_bytes, words_used}
-use Rattle.store_model.specs.Operations.{Operation, Inactive, InError, Active, After, with_live_key}
-use Rattle.store_model.specs.HashOperations.{HashWork}
-use Rattle.store_model.specs.MacOperations.{MacWork}
-use Rattle.store_model.specs.CipherOperations.{CipherWork}
-use Rattle.store_model.specs.AeadOperations.{AeadWork}
-use Rattle.store_model.specs.DerivationOperations.{DerivationWork}
+use Rattle.store_model.specs.{AeadOperations.AeadWork, DerivationOperations.DerivationWork}
 
 pub data Work : Type 0 where
   Hashing : (work : HashWork) → Work

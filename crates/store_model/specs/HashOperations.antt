@@ -1,8 +1,6 @@
 -- A hash in several parts.
 use Rattle.std.specs.Prelude.{ℕ, ◌+◌, not, nat_lt, bytes_eq, List, [], ◌∷◌, ◌++◌, length}
-use Rattle.store_model.specs.Common.{InvalidArgument, InvalidSignature, Rows, done, first_row, given, hash_length_of, hash_of}
-use Rattle.store_model.specs.Rules.{room_rows, total_limit}
-use Rattle.store_model.specs.Operations.{After, goes_on, ends, unless_failed}
+use Rattle.store_model.specs.{Common.InvalidArgument, Common.InvalidSignature, Common.Rows, Common.done, Common.first_row, Common.given, Common.hash_length_of, Common.hash_of, Rules.room_rows, Rules.total_limit, Operations.After, Operations.goes_on, Operations.ends, Operations.unless_failed}
 
 -- the algorithm, and the message so far
 pub record HashWork : Type 0 where

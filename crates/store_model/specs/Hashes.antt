@@ -1,7 +1,6 @@
 -- Hashes of a whole message.
 use Rattle.std.specs.Prelude.{ℕ, not, bytes_eq, List, [], ◌∷◌, ◌++◌}
-use Rattle.store_model.specs.Common.{Hash, InvalidSignature, Reply, Rows, done, first_row, given, hash_length_of, hash_of, reply_unless}
-use Rattle.store_model.specs.Rules.{class_rows, room_rows}
+use Rattle.store_model.specs.{Common.Hash, Common.InvalidSignature, Common.Reply, Common.Rows, Common.done, Common.first_row, Common.given, Common.hash_length_of, Common.hash_of, Common.reply_unless, Rules.class_rows, Rules.room_rows}
 
 abbrev pub compute_rows : (alg room : ℕ) → Rows
 compute_rows alg room = class_rows Hash alg ++ room_rows (hash_length_of alg) room

@@ -1,12 +1,8 @@
 -- Laws of every request.
 use Rattle.std.specs.Prelude.{◌≡◌, ◌≤◌, ◌↔◌, ◌⊎◌, ◌+◌, ℕ, Bool, false, true, Option, None, Some, Ok, List, [], ◌∷◌, ◌++◌, replicate, drop, if◌then◌else◌}
 use Rattle.std.specs.FinMap as map
-use Rattle.store_model.specs.Common.{BadState, Copy, Destroy, FaultMark, Generate, Import, Key, Plain, Reply, Status, Store, Success, after_rules, buffer_after, counted, is_of_fault, made_of}
-use Rattle.store_model.specs.Handles.{HandleOperation, Service, Served, own_of, operation_of, with_own, with_operation, untouched}
-use Rattle.store_model.specs.HandleCalls.{HandleCall, OutputKey, is_setup}
-use Rattle.store_model.specs.Requests.{Request, OnStore, OnHandle, serve}
-use Rattle.store_model.specs.Replay.{Entry, replay}
-use Rattle.store_model.specs.Marks.{FaultCounts, MayBeMarked, HasFault, IsCaused, AreAllowed, last_counts}
+use Rattle.store_model.specs.{Common.BadState, Common.Copy, Common.Destroy, Common.FaultMark, Common.Generate, Common.Import, Common.Key, Common.Plain, Common.Reply, Common.Status, Common.Store, Common.Success, Common.after_rules, Common.buffer_after, Common.counted, Common.is_of_fault, Common.made_of, HandleCalls.HandleCall, HandleCalls.OutputKey, HandleCalls.is_setup}
+use Rattle.store_model.specs.{Handles.HandleOperation, Handles.Service, Handles.Served, Handles.own_of, Handles.operation_of, Handles.with_own, Handles.with_operation, Handles.untouched, Requests.Request, Requests.OnStore, Requests.OnHandle, Requests.serve, Replay.Entry, Replay.replay, Marks.FaultCounts, Marks.MayBeMarked, Marks.HasFault, Marks.IsCaused, Marks.AreAllowed, Marks.last_counts}
 use Rattle.store_model.specs.Refusals.{is_ready, left_by, spoils}
 
 -- the handle that a request is on

@@ -1,9 +1,6 @@
 -- A MAC in several parts.
 use Rattle.std.specs.Prelude.{ℕ, Bool, not, bytes_eq, List, [], ◌∷◌, ◌++◌, length}
-use Rattle.store_model.specs.Common.{BadState, InvalidSignature, Rows, done, first_row, given, mac_of, tag_bytes}
-use Rattle.store_model.specs.Rules.{room_rows}
-use Rattle.store_model.specs.Operations.{After, goes_on, ends, unless_failed}
-use Rattle.store_model.specs.HashOperations.{total_rows}
+use Rattle.store_model.specs.{Common.BadState, Common.InvalidSignature, Common.Rows, Common.done, Common.first_row, Common.given, Common.mac_of, Common.tag_bytes, Rules.room_rows, Operations.After, Operations.goes_on, Operations.ends, Operations.unless_failed, HashOperations.total_rows}
 
 -- whether a MAC is verified, and not made; the algorithm, the key, and the message so far
 pub record MacWork : Type 0 where

@@ -1,7 +1,6 @@
 -- MACs of a whole message.
 use Rattle.std.specs.Prelude.{ℕ, not, nat_lt, length, bytes_eq, List, [], ◌∷◌}
-use Rattle.store_model.specs.Common.{InvalidArgument, InvalidSignature, Reply, Rows, done, first_row, given, mac_of, reply_unless, tag_bytes}
-use Rattle.store_model.specs.Rules.{room_rows, total_limit}
+use Rattle.store_model.specs.{Common.InvalidArgument, Common.InvalidSignature, Common.Reply, Common.Rows, Common.done, Common.first_row, Common.given, Common.mac_of, Common.reply_unless, Common.tag_bytes, Rules.room_rows, Rules.total_limit}
 
 -- mac_compute
 abbrev pub compute_rows : (alg bytes room : ℕ) → Rows

@@ -3,12 +3,8 @@ use Rattle.std.specs.Prelude.{◌≡◌, ℕ, Bool, true, false, not, ◌||◌, 
 use Rattle.store_model.specs.Common.{AeadDecrypt, AeadEncrypt, Call, CipherDecrypt, CipherEncrypt, Copy, Corrupt, Destroy, Export, FaultMark, GetAttributes, Hardware, Identifier, InvalidSignature, Key, MacCompute, MacVerify, Output, Plain, Reading, Status, Storage, Store, Success, Writing, first_row, is_opaque_key, is_persistent_key, option_and_then}
 use Rattle.std.specs.FinMap as map
 use Rattle.psa_status.specs.Causes.{Rose}
-use Rattle.store_model.specs.Operations.{Operation, Active, is_inactive}
-use Rattle.store_model.specs.DerivationOperations.{DerivationWork, key_step_rows}
-use Rattle.store_model.specs.Handles.{Service, Served, operation_of, key_of_operation, is_alive, part_of, derivation_part}
-use Rattle.store_model.specs.HandleCalls.{HandleCall, MacSetup, CipherSetup, AeadSetup, InputKey}
-use Rattle.store_model.specs.Requests.{Request, OnStore, OnHandle, plain_step}
-use Rattle.store_model.specs.Replay.{Entry, outcome_of}
+use Rattle.store_model.specs.{Operations.Operation, Operations.Active, Operations.is_inactive, DerivationOperations.DerivationWork, DerivationOperations.key_step_rows, Handles.Service, Handles.Served, Handles.operation_of, Handles.key_of_operation, Handles.is_alive, Handles.part_of, Handles.derivation_part, Requests.Request, Requests.OnStore, Requests.OnHandle, Requests.plain_step}
+use Rattle.store_model.specs.{HandleCalls.HandleCall, HandleCalls.MacSetup, HandleCalls.CipherSetup, HandleCalls.AeadSetup, HandleCalls.InputKey, Replay.Entry, Replay.outcome_of}
 
 -- the identifier of the key with which a secure element computes, where it holds that
 abbrev pub computed_with : Call → Option ℕ

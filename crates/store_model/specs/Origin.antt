@@ -1,13 +1,8 @@
 -- Where a copy comes from, over a history.
 use Rattle.std.specs.Prelude.{◌≡◌, ◌≤◌, ℕ, List, [], ◌∷◌, ◌++◌, ◌==◌, find, map as each, Option, None, Some, if◌then◌else◌}
 use Rattle.std.specs.List.{AllByRecursion}
-use Rattle.store_model.specs.Common.{Copy, IsWithin, Key, Policy, Settings, Store, caller_count, option_map, option_map_or, start_of}
+use Rattle.store_model.specs.{Common.Copy, Common.IsWithin, Common.Key, Common.Policy, Common.Settings, Common.Store, Common.caller_count, Common.option_map, Common.option_map_or, Common.start_of, Marks.key_answered, Handles.Service, Handles.Served, Requests.Request, Requests.OnStore, Replay.Entry, Replay.outcome_of, Replay.replay, Sound.IsSound}
 use Rattle.std.specs.FinMap as map
-use Rattle.store_model.specs.Marks.{key_answered}
-use Rattle.store_model.specs.Handles.{Service, Served}
-use Rattle.store_model.specs.Requests.{Request, OnStore}
-use Rattle.store_model.specs.Replay.{Entry, outcome_of, replay}
-use Rattle.store_model.specs.Sound.{IsSound}
 
 -- a creation: its number, the policy that it recorded, and of a copy the source's number
 pub record Made : Type 0 where

@@ -1,9 +1,7 @@
 -- What a call does to the store, and what it answers.
 use Rattle.std.specs.Prelude.{ℕ, ◌+◌, List, length, Option, Some, None}
-use Rattle.psa_status.specs.declared.Status.{Status}
-use Rattle.psa_status.specs.declared.Status.TheVariants.{Success}
-use Rattle.store_model.specs.Store.{Store}
-use Rattle.store_model.specs.Call.{Reply, Nothing, Done, Bytes}
+use Rattle.psa_status.specs.{declared.Status.Status, declared.Status.TheVariants.Success}
+use Rattle.store_model.specs.{Store.Store, Call.Reply, Call.Nothing, Call.Done, Call.Bytes}
 
 -- the store after a call, the reply, and how many random bytes the caller drew for it
 pub record Outcome : Type 0 where

@@ -1,5 +1,5 @@
 -- The words of this crate that others cite, a line or two for each file that says them.
-pub use Rattle.store_model.specs.Store.{Key, KeyMap, OpenedKey, Settings, Store, count_persistent, first_volatile, found_from, has_secure_element, is_opaque, is_opaque_key, is_persistent_key, is_volatile, is_volatile_of, live_volatile, made_of, start_of}
+pub use Rattle.store_model.specs.Store.{Key, KeyMap, OpenedKey, Settings, Store, count_in_range, count_persistent, is_in_range, is_low, is_per_range, lacks_room, persistent_limit, range_limit, first_volatile, found_from, has_secure_element, is_opaque, is_opaque_key, is_persistent_key, is_volatile, is_volatile_of, live_volatile, made_of, start_of}
 pub use Rattle.store_model.specs.Call.{Bytes, Call, CipherEncrypt, Copy, Description, Destroy, Export, Generate, GetAttributes, Identifier, Import, MacCompute, Nothing, Output, Purge, Reply, attribute_bytes, buffer_after, buffer_bytes, output_bytes}
 pub use Rattle.store_model.specs.Faults.{Corrupt, FaultMark, Hardware, Plain, Reading, Storage, StorageAccess, Writing, is_of_fault, marked_reply}
 pub use Rattle.store_model.specs.Outcome.{Computed, Outcome, computed_unless, counted, decided, done, given, refusal, refused, replies, reply_unless, spoiled, with_computed}
@@ -27,5 +27,5 @@ pub use Rattle.store_model.specs.Requests.{OnHandle, OnStore, Request, failed_st
 pub use Rattle.store_model.specs.Replay.{Entry, outcome_of, replay, reply_at}
 pub use Rattle.store_model.specs.Marks.{AreAllowed, FaultCounts, HasFault, IsCaused, MayBeMarked, asks_device, computed_with, id_read, is_of_computed, key_answered, key_changed, last_counts, reads_persistent, takes_key}
 pub use Rattle.store_model.specs.Laws.{may_change_keys}
-pub use Rattle.store_model.specs.Sound.{AreFoundKeys, HasNumber, IsChecked, IsSound, IsSoundKey, IsSoundOperation, IsSoundStore, IsVolatileOf, as_stated}
+pub use Rattle.store_model.specs.Sound.{AreFoundKeys, HasNumber, HaveRoom, IsChecked, IsSound, IsSoundKey, IsSoundOperation, IsSoundStore, IsVolatileOf, as_stated}
 pub use Rattle.store_model.specs.Origin.{GainsNothing, IsCaller, found_made, made_after}

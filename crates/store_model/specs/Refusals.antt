@@ -1,8 +1,6 @@
 -- What a refused call leaves of its handle's operation, and of its output buffer.
 use Rattle.std.specs.Prelude.{Bool, true, false, length, if◌then◌else◌}
-use Rattle.store_model.specs.Common.{HardwareFailure, InsufficientData, InvalidArgument, InvalidPadding, InvalidSignature, Status}
-use Rattle.store_model.specs.Operations.{Operation, InError, Active, is_inactive}
-use Rattle.store_model.specs.DerivationOperations.{SetCapacity, OutputBytes, VerifyBytes, without}
+use Rattle.store_model.specs.{Common.HardwareFailure, Common.InsufficientData, Common.InvalidArgument, Common.InvalidPadding, Common.InvalidSignature, Common.Status, Operations.Operation, Operations.InError, Operations.Active, Operations.is_inactive, DerivationOperations.SetCapacity, DerivationOperations.OutputBytes, DerivationOperations.VerifyBytes, DerivationOperations.without}
 use Rattle.store_model.specs.Handles.{Work, Deriving, HandleOperation, key_of_operation, held_with, part_of, hash_part, mac_part, cipher_part, aead_part, derivation_part}
 use Rattle.store_model.specs.HandleCalls.{HandleCall, OnHash, OnMac, OnCipher, OnAead, OnDerivation, InputKey, OutputKey, Abort}
 

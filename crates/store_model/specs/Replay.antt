@@ -1,8 +1,6 @@
 -- A history of calls, and its replay on the one-thread service.
 use Rattle.std.specs.Prelude.{ℕ, zero, suc, List, [], ◌∷◌, Option, Some, None}
-use Rattle.store_model.specs.Common.{FaultMark, Reply}
-use Rattle.store_model.specs.Handles.{Service, Served}
-use Rattle.store_model.specs.Requests.{Request, serve}
+use Rattle.store_model.specs.{Common.FaultMark, Common.Reply, Handles.Service, Handles.Served, Requests.Request, Requests.serve}
 
 -- A call as it was made: who made it, and its mark. As its turn ended, `done` was the disk's moment, `faults`
 -- the disk's count of faults, and `device_faults` the drivers'. Replay ignores these three.

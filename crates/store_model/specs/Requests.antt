@@ -1,10 +1,6 @@
 -- One call on the service: on the store, or on a handle.
 use Rattle.std.specs.Prelude.{ℕ, if◌then◌else◌}
-use Rattle.store_model.specs.Common.{Call, Destroy, FaultMark, Outcome, Plain, counted, marked_reply}
-use Rattle.store_model.specs.Step.{step}
-use Rattle.store_model.specs.KeyUse.{destroyed}
-use Rattle.store_model.specs.Operations.{InError}
-use Rattle.store_model.specs.Handles.{HandleOperation, Service, Served, own_of, operation_of, with_own, with_operation, with_drawn, next_random}
+use Rattle.store_model.specs.{Common.Call, Common.Destroy, Common.FaultMark, Common.Outcome, Common.Plain, Common.counted, Common.marked_reply, Step.step, KeyUse.destroyed, Operations.InError, Handles.HandleOperation, Handles.Service, Handles.Served, Handles.own_of, Handles.operation_of, Handles.with_own, Handles.with_operation, Handles.with_drawn, Handles.next_random}
 use Rattle.store_model.specs.HandleCalls.{HandleCall, is_setup, handle_step}
 
 pub data Request : Type 0 where

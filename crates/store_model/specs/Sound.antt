@@ -1,12 +1,9 @@
 -- What holds of each service that requests lead to.
-use Rattle.std.specs.Prelude.{◌≡◌, ◌≤◌, ◌<◌, ◌↔◌, ◌⊎◌, ℕ, ◌+◌, ◌^◌, ◌==◌, true, false, List, [], ◌∷◌, length, find, Option, None, Some, is_some, Ok, if◌then◌else◌}
+use Rattle.std.specs.Prelude.{◌≡◌, ◌≤◌, ◌<◌, ◌↔◌, ◌⊎◌, ℕ, ◌+◌, ◌^◌, ◌==◌, true, false, List, [], ◌∷◌, length, count_by, find, Option, None, Some, is_some, Ok, if◌then◌else◌}
 use Rattle.std.specs.FinMap as map
-use Rattle.store_model.specs.Common.{Attributes, Destroy, FaultMark, Key, OpenedKey, Settings, Store, caller_count, checked, count_persistent, first_volatile, has_secure_element, is_volatile, live_volatile, made_of, start_of}
-use Rattle.store_model.specs.Creation.{identified}
-use Rattle.store_model.specs.Operations.{Active}
-use Rattle.store_model.specs.DerivationOperations.{DerivationWork, full_capacity, is_hkdf}
+use Rattle.store_model.specs.Common.{Attributes, Destroy, FaultMark, Key, OpenedKey, Settings, Store, caller_count, checked, count_in_range, count_persistent, is_in_range, is_per_range, persistent_limit, range_limit, first_volatile, has_secure_element, is_volatile, live_volatile, made_of, start_of}
+use Rattle.store_model.specs.{declared.limits.Limits.Limits, Creation.identified, Operations.Active, DerivationOperations.DerivationWork, DerivationOperations.full_capacity, DerivationOperations.is_hkdf, Requests.Request, Requests.OnStore, Requests.serve}
 use Rattle.store_model.specs.Handles.{KeyCreation, Work, Deriving, Held, HandleOperation, Service, handle_count, own_of, operation_of, key_of_operation, is_alive, service_of}
-use Rattle.store_model.specs.Requests.{Request, OnStore, serve}
 
 -- THE STORE
 
@@ -37,7 +34,8 @@ pub record IsSoundStore (store : Store) : Type 0 where
   pub numbers : (id other : ℕ) (key same : Key) → map.get store.keys id ≡ Some key → map.get store.keys other ≡ Some same → key.number ≡ same.number → id ≡ other
   pub made : (caller : ℕ) → made_of store caller ≤ 2 ^ 20
   pub live : (caller : ℕ) → live_volatile store.keys caller ≤ 16
-  pub persistent : count_persistent store.keys ≤ 512
+  pub persistent : count_persistent store.keys ≤ persistent_limit
+  pub ranges : is_per_range store.settings.limits ≡ true → (range : ℕ) → count_in_range store.keys range ≤ range_limit
   pub callers : length store.made ≡ caller_count + 1
 
 -- THE OPERATIONS
@@ -79,17 +77,21 @@ pub record IsSound (service : Service) : Type 0 where
   pub handles : (caller : ℕ) → length (own_of service caller).operations ≡ handle_count + 1
   pub callers : length service.owns ≡ caller_count + 1
 
--- keys that an opening may find: each is persistent and checked, no identifier comes twice, and there are at most 512
+-- keys that an opening may find: each is persistent and checked, no identifier comes twice, and there are at most so many
 abbrev pub AreFoundKeys : Store → List OpenedKey → Type 0
 AreFoundKeys store [] = Unit {0}
 AreFoundKeys store (key ∷ keys) =
     (is_volatile key.attributes ≡ false) × IsChecked key.attributes (length key.bytes) store
     × (find (λ other. other.attributes.id.0 == key.attributes.id.0) keys ≡ None) × AreFoundKeys store keys
 
+-- with limits by range, at most so many of them are of a range
+abbrev pub HaveRoom : Limits → List OpenedKey → Type 0
+HaveRoom limits found = is_per_range limits ≡ true → (range : ℕ) → count_by (λ key. is_in_range range key.attributes.id.0) found ≤ range_limit
+
 -- each service is sound at its start, and each request keeps it so
 abbrev pub StartsSound : Type 0
 StartsSound =
-    (settings : Settings) (found : List OpenedKey) → AreFoundKeys (start_of settings found) found → length found ≤ 512 →
+    (settings : Settings) (found : List OpenedKey) → AreFoundKeys (start_of settings found) found → length found ≤ persistent_limit → HaveRoom settings.limits found →
     IsSound (service_of (start_of settings found))
 
 abbrev pub StaysSound : Type 0

@@ -2,15 +2,8 @@
 use Rattle.std.specs.Prelude.{ℕ, false, true, length}
 use Rattle.store_model.specs.Common.{Aead, AeadDecrypt, AeadEncrypt, Call, Cipher, CipherDecrypt, CipherEncrypt, Copy, Destroy, Export, Generate, GetAttributes, HashCompare, HashCompute, Import, Mac, MacCompute, MacVerify, Outcome, Purge, Random, Store, decided, first_row, replies, with_computed}
 use Rattle.std.specs.FinMap as map
-use Rattle.store_model.specs.Rules.{using_key, mac_usage, cipher_usage}
-use Rattle.store_model.specs.Creation.{created_unless, recorded_of, stated_bytes}
-use Rattle.store_model.specs.Copies.{recorded_copy}
-use Rattle.store_model.specs.Generation.{generated, generation_of}
-use Rattle.store_model.specs.Hashes.{hash_reply, compared_reply}
-use Rattle.store_model.specs.Macs.{mac_reply, verified_reply}
-use Rattle.store_model.specs.Ciphers.{mode_of, is_ctr, iv_length, encrypted, decrypted_reply}
-use Rattle.store_model.specs.Aeads.{sealed_reply, opened_reply}
-use Rattle.store_model.specs.KeyUse.{attributes_reply, bytes_of_key, destroy_rows, destroyed, export_reply, purge_reply}
+use Rattle.store_model.specs.{Rules.using_key, Rules.mac_usage, Rules.cipher_usage, Creation.created_unless, Creation.recorded_of, Creation.stated_bytes, Copies.recorded_copy, Generation.generated, Generation.generation_of, Hashes.hash_reply, Hashes.compared_reply, Macs.mac_reply, Macs.verified_reply, Ciphers.mode_of, Ciphers.is_ctr, Ciphers.iv_length, Ciphers.encrypted, Ciphers.decrypted_reply}
+use Rattle.store_model.specs.{Aeads.sealed_reply, Aeads.opened_reply, KeyUse.attributes_reply, KeyUse.bytes_of_key, KeyUse.destroy_rows, KeyUse.destroyed, KeyUse.export_reply, KeyUse.purge_reply}
 
 abbrev pub step : Store → ℕ → Random → Call → Outcome
 step store caller random (Import a bytes) = created_unless store caller (recorded_of store caller a (length bytes)) bytes

@@ -1,12 +1,9 @@
 -- The one-thread store.
-use Rattle.std.specs.Prelude.{ℕ, ◌+◌, ◌*◌, ◌/◌, ◌^◌, Bool, false, not, List, [], ◌∷◌, ◌==◌, nat_lt, length, replicate, get_or, Option}
-use Rattle.std.specs.Option.{option_map_or}
-use Rattle.std.specs.List.{list_any}
-use Rattle.std.specs.Ordering.{nat_cmp}
+use Rattle.std.specs.{Prelude.ℕ, Prelude.◌+◌, Prelude.◌*◌, Prelude.◌/◌, Prelude.◌^◌, Prelude.◌&&◌, Prelude.◌||◌, Prelude.Bool, Prelude.true, Prelude.false, Prelude.not, Prelude.List, Prelude.[], Prelude.◌∷◌, Prelude.◌==◌, Prelude.nat_le, Prelude.nat_lt, Prelude.length, Prelude.replicate, Prelude.get_or, Prelude.Option, Option.option_map_or, List.list_any, Ordering.nat_cmp}
 use Rattle.std.specs.FinMap as map
-use Rattle.key_attributes.specs.declared.Attributes.{Attributes}
-use Rattle.key_attributes.specs.Checks.{persistence, location}
+use Rattle.key_attributes.specs.{declared.Attributes.Attributes, Checks.persistence, Checks.location}
 use Rattle.policy_rules.specs.declared.narrowing.Label.{Label}
+use Rattle.store_model.specs.{declared.limits.Limits.Limits, declared.limits.Limits.TheVariants.Whole, declared.limits.Limits.TheVariants.PerRange}
 
 -- a key that is alive: its creation number, attributes and bytes, and the caller that created it (0 where it was found)
 pub record Key : Type 0 where
@@ -18,11 +15,12 @@ pub record Key : Type 0 where
 abbrev pub KeyMap : Type 0
 KeyMap = map.FinMap nat_cmp Key
 
--- what never changes: the seed, the labels of the rules in their order, and the locations with a driver
+-- what never changes: the seed, the labels of the rules in their order, the locations with a driver, and the limits
 pub record Settings : Type 0 where
   pub seed : List ℕ
   pub labels : List Label
   pub locations : List ℕ
+  pub limits : Limits
 
 -- the store, which all callers share: its keys by their identifiers, how many volatile keys each caller has made, by
 -- the caller's number (0 is nobody's), the calls so far, how many keys were found at opening, and what never changes
@@ -89,5 +87,31 @@ abbrev pub live_volatile : KeyMap → ℕ → ℕ
 live_volatile keys caller = map.len (map.retain_keys keys (is_volatile_of caller))
 
 -- how many persistent keys there are: their identifiers are below every volatile key's
+abbrev pub is_low : ℕ → Bool
+is_low id = nat_lt id 0x40000000
+
 abbrev pub count_persistent : KeyMap → ℕ
-count_persistent keys = map.len (map.retain_keys keys (λ id. nat_lt id 0x40000000))
+count_persistent keys = map.len (map.retain_keys keys is_low)
+
+-- how many of them have identifiers of a range
+abbrev pub is_in_range : (range id : ℕ) → Bool
+is_in_range range id = is_low id && (id / 2 ^ 26 == range)
+
+abbrev pub count_in_range : KeyMap → (range : ℕ) → ℕ
+count_in_range keys range = map.len (map.retain_keys keys (is_in_range range))
+
+-- how many persistent keys a store has room for, and a range where the limits are by range
+abbrev pub persistent_limit : ℕ
+persistent_limit = 2048
+
+abbrev pub range_limit : ℕ
+range_limit = 128
+
+abbrev pub is_per_range : Limits → Bool
+is_per_range Whole = false
+is_per_range PerRange = true
+
+-- whether a store has no room for a persistent key of this identifier
+abbrev pub lacks_room : Store → ℕ → Bool
+lacks_room store id = nat_le persistent_limit (count_persistent store.keys)
+    || (is_per_range store.settings.limits && nat_le range_limit (count_in_range store.keys (id / 2 ^ 26)))

@@ -9,7 +9,7 @@
 //!   handle; any refusal leaves its output buffer, but for the zeros of INVALID_SIGNATURE, INVALID_PADDING and
 //!   HARDWARE_FAILURE.
 //! - `stays_sound`, `keys_stay`, `alive_by_number`: a sound service stays so over calls of its sixteen callers, with at
-//!   most 512 persistent keys and 16 live volatile ones of a caller; its keys stay until they are destroyed; whether an
+//!   most 2,048 persistent keys, with limits by range 128 of each range, and 16 live volatile ones of a caller; its keys stay until they are destroyed; whether an
 //!   operation's key is there is whether some key has its creation number, which no two keys have.
 //! - `rules_are_followed`, `copies_gain_nothing`: a created key obeys each rule; no chain of copies gains a flag or an
 //!   algorithm.
@@ -18,9 +18,12 @@
 //! - `draws_few_words`: a call draws at most 256 words.
 #![tactic(auto)]
 
-ghost use Rattle.store_model.specs.Laws.{AllowedGoOn, CausesGoOn, CountsOnce, DrawsFewWords, LeavesOtherCallers, LeavesOtherHandles, LeavesSettings, LeavesShared, MarksAlone, RefusalsLeaveAll, RefusalsLeaveBuffers, RefusedSetupsLeaveAll, RulesAreFollowed, UnreadyHandlesStay};
-ghost use Rattle.store_model.specs.Origin.{CopiesGainNothing, NoneFoundAtStart};
+mod limits;
+
+ghost use Rattle.store_model.specs.{Laws.AllowedGoOn, Laws.CausesGoOn, Laws.CountsOnce, Laws.DrawsFewWords, Laws.LeavesOtherCallers, Laws.LeavesOtherHandles, Laws.LeavesSettings, Laws.LeavesShared, Laws.MarksAlone, Laws.RefusalsLeaveAll, Laws.RefusalsLeaveBuffers, Laws.RefusedSetupsLeaveAll, Laws.RulesAreFollowed, Laws.UnreadyHandlesStay, Origin.CopiesGainNothing, Origin.NoneFoundAtStart};
 ghost use Rattle.store_model.specs.Sound.{AliveByNumber, KeysStay, StartsSound, StaysSound};
+
+pub use limits::Limits;
 
 /// A request of one caller leaves what is every other caller's own.
 pub fn leaves_other_callers()

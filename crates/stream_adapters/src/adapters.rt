@@ -1,8 +1,6 @@
 // What the program runs over: a reader, a writer and a file. They tell no contents; a read gives what the reader gave, and a
 // write is what the writer took.
-ghost use Rattle.std.specs.Prelude.{◌≡◌, None, ⊤, IfOk, OnErr, IsErr, Ok};
-ghost use Rattle.std.specs.Io.{ReadsAtMost, WritesAtMost};
-ghost use Rattle.std.specs.Io.KnownBytes.{ReadConsumes, WriteAppends};
+ghost use Rattle.std.specs.{Prelude.◌≡◌, Prelude.None, Prelude.⊤, Prelude.IfOk, Prelude.OnErr, Prelude.IsErr, Prelude.Ok, Io.ReadsAtMost, Io.WritesAtMost, Io.KnownBytes.ReadConsumes, Io.KnownBytes.WriteAppends};
 ghost use Rattle.psa_status.specs.Causes.{HasCause};
 ghost use Rattle.outside_io.specs.Causes.{Progresses, Takes, TellsAsBefore};
 

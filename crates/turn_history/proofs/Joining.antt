@@ -1,7 +1,6 @@
 -- A join keeps the rule.
 use Rattle.turn_history.proofs.Common.{Account, All, All-append, All-cons, All-nil, Allows, Holding, Joins, Kept, Knows, List, LockState, Mine, Option, Remembers, StartsWith, State, View, [], account, ap, arith, at_set, calls_by, compared, dec_lt, dite, entries_of, false, gathering, get_elem?, get_or, held_by, inl, inr, keeps, length, length-append, longer, merged, none, refl, set, set_else, some, spent, step, subst, suc, sym, true, true≢false, ℕ, ℕ_discrete, ⊎_elim, ◌++◌, ◌+◌, ◌<◌, ◌∙◌, ◌∷◌, ◌≡◌, ◌≢◌, ◌⊎◌}
-use Rattle.turn_history.proofs.Lists.{put, put_here, put_else, two_beginnings, between, longer_by, total_set}
-use Rattle.turn_history.proofs.Keeping.{loaded, quiet, later, place_kept, place_stays, knows_nothing, all_set, knows_seated, nobody_still, same_at, there_still}
+use Rattle.turn_history.proofs.{Lists.put, Lists.put_here, Lists.put_else, Lists.two_beginnings, Lists.between, Lists.longer_by, Lists.total_set, Keeping.loaded, Keeping.quiet, Keeping.later, Keeping.place_kept, Keeping.place_stays, Keeping.knows_nothing, Keeping.all_set, Keeping.knows_seated, Keeping.nobody_still, Keeping.same_at, Keeping.there_still}
 
 module _ {V E B : Type 0} (by : E → ℕ) (stands : V → List E → List Holding → Type 0) (base : V → B) (key : B) (passes : ℕ) where
   longer_whole : (whole a b : List (Option E)) → a ≡ whole → StartsWith whole b → longer a b ≡ whole

@@ -1,7 +1,6 @@
 -- A split keeps the rule.
 use Rattle.turn_history.proofs.Common.{All-nil, Holding, Kept, Knows, List, LockState, Option, Remembers, Some, Splits, StartsWith, State, TURNS, View, [], after_making, ap, arith, at_longer, calls_by, dite, entries_of, false, get_elem?, get_or, held_by, inl, inr, length, length-set, made_pass, refl, set, some, subst, sym, true, true≢false, watcher, ℕ, ℕ_discrete, ⊎_elim, ◌++◌, ◌+◌, ◌<◌, ◌∙◌, ◌∷◌, ◌≡◌, ◌≢◌, ◌≤◌, ◌⊎◌}
-use Rattle.turn_history.proofs.Lists.{put, put_here, put_else, at_snoc_end, between, no_calls, total_set, total_snoc}
-use Rattle.turn_history.proofs.Keeping.{knows_seated, some_is_not, all_set, nobody_still, there_still, no_pass, place_kept}
+use Rattle.turn_history.proofs.{Lists.put, Lists.put_here, Lists.put_else, Lists.at_snoc_end, Lists.between, Lists.no_calls, Lists.total_set, Lists.total_snoc, Keeping.knows_seated, Keeping.some_is_not, Keeping.all_set, Keeping.nobody_still, Keeping.there_still, Keeping.no_pass, Keeping.place_kept}
 
 module _ {V E B : Type 0} (by : E → ℕ) (stands : V → List E → List Holding → Type 0) (base : V → B) (key : B) (passes : ℕ) where
   -- a further seat, which knows as much as r' says

@@ -1,6 +1,5 @@
 -- A value in a box, as the lock holds it.
-use Rattle.std.specs.Prelude.{List}
-use Rattle.std.specs.Global.{Box}
+use Rattle.std.specs.{Prelude.List, Global.Box}
 use Rattle.turn_history.specs.Holdings.{Holding}
 
 -- a box stands for what its value stands for

@@ -1,8 +1,6 @@
 -- What is known at the end of a lock.
 use Rattle.std.specs.Prelude.{◌≡◌, ℕ, ◌<◌, ◌≤◌, List, [], All, replicate, Option}
-use Rattle.turn_history.specs.declared.pass.Account.{Account}
-use Rattle.turn_history.specs.History.{entries_of, calls_by, StartsWith}
-use Rattle.turn_history.specs.Holdings.{Holding}
+use Rattle.turn_history.specs.{declared.pass.Account.Account, History.entries_of, History.calls_by, History.StartsWith, Holdings.Holding}
 
 -- the value x stands for one history, which the passes of these accounts have seen beginnings of
 pub record Closing {V E B : Type 0} (by : E → ℕ) (stands : V → List E → List Holding → Type 0) (base : V → B) (opening : B) (passes : ℕ) (x : V) (accounts : List (Account E)) : Type 0 where

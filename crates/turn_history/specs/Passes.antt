@@ -1,10 +1,7 @@
 -- Passes, and lists of them.
 use Rattle.std.specs.Prelude.{◌≡◌, ℕ, ◌+◌, ◌<◌, false, List, [], ◌∷◌, Option, length, slice_index_or}
-use Rattle.atomic_table.specs.Seated.{TableId}
-use Rattle.atomic_table.specs.declared.shared.Seat.{Seat}
-use Rattle.turn_history.specs.declared.pass.Account.{Account}
-use Rattle.turn_history.specs.declared.pass.View.{View}
-use Rattle.turn_history.specs.Views.{account_of, new_pass}
+use Rattle.atomic_table.specs.{Seated.TableId, declared.shared.Seat.Seat}
+use Rattle.turn_history.specs.{declared.pass.Account.Account, declared.pass.View.View, Views.account_of, Views.new_pass}
 
 module _ {V E B : Type 0} where
   -- a pass of this lock that is in no turn and has nothing out of the value

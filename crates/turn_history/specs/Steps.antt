@@ -1,11 +1,7 @@
 -- What each step tells the pass that makes it: of the step, the pass before, the number found and the pass after.
 use Rattle.std.specs.Prelude.{◌≡◌, ◌≢◌, ℕ, ◌^◌, ◌<◌, ◌≤◌, false, List, [], ◌∷◌, All, length, Option, Some, None}
 use Rattle.atomic_table.specs.Table.{Step}
-use Rattle.turn_history.specs.declared.pass.Account.{Account}
-use Rattle.turn_history.specs.declared.pass.View.{View}
-use Rattle.turn_history.specs.History.{entries_of, StartsWith}
-use Rattle.turn_history.specs.Holdings.{Holding, held_by}
-use Rattle.turn_history.specs.Views.{Mine, OwnCalls, after_turn, in_its_turn_at, with_ticket}
+use Rattle.turn_history.specs.{declared.pass.Account.Account, declared.pass.View.View, History.entries_of, History.StartsWith, Holdings.Holding, Holdings.held_by, Views.Mine, Views.OwnCalls, Views.after_turn, Views.in_its_turn_at, Views.with_ticket}
 
 abbrev pub TableStep : Type 0 → Type 0
 TableStep V = Step (Option V)

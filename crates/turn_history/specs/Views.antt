@@ -1,10 +1,7 @@
 -- What passes know, and how a step changes it.
 use Rattle.std.specs.Prelude.{◌≡◌, ℕ, ◌+◌, ◌-◌, ◌*◌, ◌<◌, true, false, cond, nat_lt, List, [], ◌∷◌, ◌++◌, length, Option, Some, None}
 use Rattle.atomic_table.specs.Table.{Me}
-use Rattle.turn_history.specs.declared.pass.Account.{Account}
-use Rattle.turn_history.specs.declared.pass.View.{View}
-use Rattle.turn_history.specs.History.{entries_of, calls_by, option_list}
-use Rattle.turn_history.specs.Holdings.{Holding}
+use Rattle.turn_history.specs.{declared.pass.Account.Account, declared.pass.View.View, History.entries_of, History.calls_by, History.option_list, Holdings.Holding}
 
 -- a view, and the slot that is out with it
 abbrev pub Mine : Type 0 → Type 0 → Type 0 → Type 0

@@ -1,8 +1,6 @@
 //! The end of a lock. It takes no memory.
 ghost use Rattle.std.specs.Prelude.{◌≡◌, ◌+◌, ◌++◌, ◌∷◌, [], false, All};
-ghost use Rattle.turn_history.specs.Views.{account_of};
-ghost use Rattle.turn_history.specs.Closing.{Closing};
-ghost use Rattle.turn_history.specs.Passes.{IsIdle, accounts_of, weight_of};
+ghost use Rattle.turn_history.specs.{Views.account_of, Closing.Closing, Passes.IsIdle, Passes.accounts_of, Passes.weight_of};
 
 use crate::historic::Historic;
 use crate::lock::HistoryLock;

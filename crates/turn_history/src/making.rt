@@ -1,7 +1,6 @@
 //! The making of a lock.
 ghost use Rattle.std.specs.Prelude.{◌≡◌, ◌<◌, ◌≤◌, ◌∷◌, [], IfOk, IfErr, replicate, Some, vec_capacity};
-ghost use Rattle.turn_history.specs.Views.{first_view};
-ghost use Rattle.turn_history.specs.Passes.{AreNew};
+ghost use Rattle.turn_history.specs.{Views.first_view, Passes.AreNew};
 
 use crate::historic::Historic;
 use crate::lock::HistoryLock;

@@ -1,8 +1,6 @@
 //! Passes that meet: one splits a watcher off, or takes another one in.
 ghost use Rattle.std.specs.Prelude.{◌≡◌, ◌⊎◌, false, []};
-ghost use Rattle.turn_history.specs.History.{StartsWith};
-ghost use Rattle.turn_history.specs.Views.{OwnCalls, joined, watcher};
-ghost use Rattle.turn_history.specs.Passes.{IsIdle};
+ghost use Rattle.turn_history.specs.{History.StartsWith, Views.OwnCalls, Views.joined, Views.watcher, Passes.IsIdle};
 
 use crate::historic::Historic;
 use crate::lock::HistoryLock;

@@ -1,9 +1,6 @@
 //! A turn: a pass enters, has the value to itself, and leaves.
 ghost use Rattle.std.specs.Prelude.{◌≡◌, true, ◌<◌, ◌≤◌, ◌^◌, ◌++◌, ◌∷◌, [], length, Some, None};
-ghost use Rattle.turn_history.specs.History.{entries_of, option_list, place_of, StartsWith};
-ghost use Rattle.turn_history.specs.Holdings.{with_held_by};
-ghost use Rattle.turn_history.specs.Views.{CanEnter, IsInTurn, OwnCalls, after_turn, entered};
-ghost use Rattle.turn_history.specs.Steps.{Found};
+ghost use Rattle.turn_history.specs.{History.entries_of, History.option_list, History.place_of, History.StartsWith, Holdings.with_held_by, Views.CanEnter, Views.IsInTurn, Views.OwnCalls, Views.after_turn, Views.entered, Steps.Found};
 
 use crate::historic::Historic;
 use crate::lock::HistoryLock;

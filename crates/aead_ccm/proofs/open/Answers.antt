@@ -1,7 +1,5 @@
-use Rattle.aead_ccm.proofs.Common.{aes_encrypt, ap, ccm_tag, chained, control_block, encoded_data, false, filled_blocks, length, sym, true, ℕ, ◌∙◌, ◌∷◌}
+use Rattle.aead_ccm.proofs.{Common.aes_encrypt, Common.ap, Common.ccm_tag, Common.chained, Common.control_block, Common.encoded_data, Common.false, Common.filled_blocks, Common.length, Common.sym, Common.true, Common.ℕ, Common.◌∙◌, Common.◌∷◌, KeyStream.text_is, Tags.tag_is}
 use Rattle.cipher_blocks.proofs.FilledBlocks.{decided_of_equal}
-use Rattle.aead_ccm.proofs.KeyStream.{text_is}
-use Rattle.aead_ccm.proofs.Tags.{tag_is}
 use Rattle.aead_ccm.proofs.open.Goals as goal
 
 pub returns-then-is_tag-clause-text : goal.returns-then-is_tag-clause-text

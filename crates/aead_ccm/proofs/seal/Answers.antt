@@ -1,6 +1,4 @@
-use Rattle.aead_ccm.proofs.Common.{aes_encrypt, length, ◌∙◌}
-use Rattle.aead_ccm.proofs.KeyStream.{text_is}
-use Rattle.aead_ccm.proofs.Tags.{tag_is}
+use Rattle.aead_ccm.proofs.{Common.aes_encrypt, Common.length, Common.◌∙◌, KeyStream.text_is, Tags.tag_is}
 use Rattle.aead_ccm.proofs.seal.Goals as goal
 
 pub returns : goal.returns

@@ -1,6 +1,5 @@
-use Rattle.aead_gcm.proofs.Common.{aes_encrypt, false, length, number_block, true}
+use Rattle.aead_gcm.proofs.{Common.aes_encrypt, Common.false, Common.length, Common.number_block, Common.true, Tags.tag_is, Tags.text_is}
 use Rattle.cipher_blocks.proofs.FilledBlocks.{decided_of_equal}
-use Rattle.aead_gcm.proofs.Tags.{tag_is, text_is}
 use Rattle.aead_gcm.proofs.open.Goals as goal
 
 pub returns-then-is_tag-clause-text : goal.returns-then-is_tag-clause-text

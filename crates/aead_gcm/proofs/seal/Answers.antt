@@ -1,5 +1,4 @@
-use Rattle.aead_gcm.proofs.Common.{aes_encrypt, length, number_block, ◌∙◌}
-use Rattle.aead_gcm.proofs.Tags.{tag_is, text_is}
+use Rattle.aead_gcm.proofs.{Common.aes_encrypt, Common.length, Common.number_block, Common.◌∙◌, Tags.tag_is, Tags.text_is}
 use Rattle.aead_gcm.proofs.seal.Goals as goal
 
 pub returns : goal.returns

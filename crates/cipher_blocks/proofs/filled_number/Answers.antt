@@ -1,5 +1,4 @@
-use Rattle.cipher_blocks.proofs.Common.{ap, arith, block_number, number_block, ◌∙◌}
-use Rattle.cipher_blocks.proofs.FilledBlocks.{written_number, written_block}
+use Rattle.cipher_blocks.proofs.{Common.ap, Common.arith, Common.block_number, Common.number_block, Common.◌∙◌, FilledBlocks.written_number, FilledBlocks.written_block}
 use Rattle.cipher_blocks.proofs.filled_number.Goals as goal
 
 pub returns : goal.returns

@@ -1,5 +1,4 @@
-use Rattle.cipher_blocks.proofs.Common.{ap, arith, length, length-number_block, length-take, number_block, refl, sym, take, ◌∙◌, ◌≡◌}
-use Rattle.cipher_blocks.proofs.FilledBlocks.{pieces_told}
+use Rattle.cipher_blocks.proofs.{Common.ap, Common.arith, Common.length, Common.length-number_block, Common.length-take, Common.number_block, Common.refl, Common.sym, Common.take, Common.◌∙◌, Common.◌≡◌, FilledBlocks.pieces_told}
 use Rattle.cipher_blocks.proofs.is_front.Goals as goal
 
 pub returns : goal.returns

@@ -1,5 +1,4 @@
-use Rattle.cipher_blocks.proofs.Common.{ap, arith, block_number, number_block, ◌∙◌}
-use Rattle.cipher_blocks.proofs.BlockNumbers.{block_of_number}
+use Rattle.cipher_blocks.proofs.{Common.ap, Common.arith, Common.block_number, Common.number_block, Common.◌∙◌, BlockNumbers.block_of_number}
 use Rattle.cipher_blocks.proofs.number_of.Goals as goal
 
 pub returns : goal.returns

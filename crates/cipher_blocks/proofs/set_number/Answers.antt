@@ -1,5 +1,4 @@
-use Rattle.cipher_blocks.proofs.Common.{arith}
-use Rattle.cipher_blocks.proofs.HalfBlocks.{block_written}
+use Rattle.cipher_blocks.proofs.{Common.arith, HalfBlocks.block_written}
 use Rattle.cipher_blocks.proofs.set_number.Goals as goal
 
 pub returns : goal.returns

@@ -1,5 +1,4 @@
-use Rattle.cipher_blocks.proofs.Common.{List, ap, to_be_bytes, w64, xor_bytes, ℕ, ◌∙◌}
-use Rattle.cipher_blocks.proofs.BlockNumbers.{xor_bytes_high_first}
+use Rattle.cipher_blocks.proofs.{Common.List, Common.ap, Common.to_be_bytes, Common.w64, Common.xor_bytes, Common.ℕ, Common.◌∙◌, BlockNumbers.xor_bytes_high_first}
 use Rattle.cipher_blocks.proofs.xor_half.Goals as goal
 
 pub returns : goal.returns

@@ -1,5 +1,4 @@
-use Rattle.cipher_blocks.proofs.Common.{ap, arith, number_block, xor_bytes, ◌∙◌}
-use Rattle.cipher_blocks.proofs.HalfBlocks.{halves_xored}
+use Rattle.cipher_blocks.proofs.{Common.ap, Common.arith, Common.number_block, Common.xor_bytes, Common.◌∙◌, HalfBlocks.halves_xored}
 use Rattle.cipher_blocks.proofs.xor_into.Goals as goal
 
 pub returns-then-piece-eq16 : goal.returns-then-piece-eq16

@@ -1,5 +1,4 @@
-use Rattle.std.proofs.Common.{All, IfSome, arith, subst, sym, ◌∙◌}
-use Rattle.std.proofs.lemmas.List.Elements.{All-pop, All-push}
+use Rattle.std.proofs.{Common.All, Common.IfSome, Common.arith, Common.subst, Common.sym, Common.◌∙◌, lemmas.List.Elements.All-pop, lemmas.List.Elements.All-push}
 use Rattle.callers.specs.Ready.{IsReady}
 use Rattle.locked_store.specs.Prelude.{world}
 use Rattle.caller_service.specs.Replies.{MayCall}

@@ -1,5 +1,4 @@
-use Rattle.std.proofs.Common.{ap, ap₂, arith, length, replicate, ◌++◌, ◌-◌, ◌∙◌, ◌≡◌}
-use Rattle.std.proofs.lemmas.List.{replicate-append-replicate}
+use Rattle.std.proofs.{Common.ap, Common.ap₂, Common.arith, Common.length, Common.replicate, Common.◌++◌, Common.◌-◌, Common.◌∙◌, Common.◌≡◌, lemmas.List.replicate-append-replicate}
 use Rattle.secret_bytes.proofs.clear.Goals as goal
 
 pub returns : goal.returns

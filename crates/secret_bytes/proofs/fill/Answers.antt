@@ -1,6 +1,4 @@
-use Rattle.std.proofs.Common.{List, ap, arith, drop, length, replicate, take, ℕ, ◌++◌, ◌+◌, ◌-◌, ◌∙◌, ◌≡◌, ◌≤◌}
-use Rattle.std.proofs.Math.Seq.{drop-append-add}
-use Rattle.std.proofs.lemmas.List.{drop-drop, drop-replicate, length-take}
+use Rattle.std.proofs.{Common.List, Common.ap, Common.arith, Common.drop, Common.length, Common.replicate, Common.take, Common.ℕ, Common.◌++◌, Common.◌+◌, Common.◌-◌, Common.◌∙◌, Common.◌≡◌, Common.◌≤◌, Math.Seq.drop-append-add, lemmas.List.drop-drop, lemmas.List.drop-replicate, lemmas.List.length-take}
 use Rattle.secret_bytes.proofs.fill.Goals as goal
 
 -- what stands past the bytes in use, from a place on

@@ -1,5 +1,4 @@
-use Rattle.store_model.proofs.Found.{none_found}
-use Rattle.store_model.proofs.GainNothing.{gain_nothing}
+use Rattle.store_model.proofs.{Found.none_found, GainNothing.gain_nothing}
 use Rattle.store_model.proofs.copies_gain_nothing.Goals as goal
 
 pub returns : goal.returns

@@ -1,6 +1,5 @@
-use Rattle.admission.proofs.Common.{Some, [], ap, append-nil, arith, labels_in, map, rules, sym, ◌∙◌}
+use Rattle.admission.proofs.{Common.Some, Common.[], Common.ap, Common.append-nil, Common.arith, Common.labels_in, Common.map, Common.rules, Common.sym, Common.◌∙◌, Texts.first_word, Texts.last_word, Texts.read_on, Texts.read_none, Texts.behind}
 use Rattle.std.proofs.lemmas.Str.Pattern.{split_once_first}
-use Rattle.admission.proofs.Texts.{first_word, last_word, read_on, read_none, behind}
 use Rattle.admission.proofs.words.read_labels.Goals as goal
 
 pub returns-in_default-label_of : goal.returns-in_default-label_of

@@ -1,6 +1,5 @@
-use Rattle.admission.proofs.Common.{labels_in, length, map, ◌≡◌}
+use Rattle.admission.proofs.{Common.labels_in, Common.length, Common.map, Common.◌≡◌, Texts.behind}
 use Rattle.std.specs.Str.{IsUtf8}
-use Rattle.admission.proofs.Texts.{behind}
 use Rattle.admission.proofs.words.read_labels.Given as goal
 
 abbrev pub invariant-loop-word : goal.invariant-loop-word

@@ -1,7 +1,4 @@
-use Rattle.aead_ccm.proofs.Common.{aes_encrypt, ap, arith, chained_from, drop, encoded_data, length, length-drop, number_block, sym, take, take_all, ◌-◌, ◌<◌, ◌∙◌, ◌≡◌}
-use Rattle.aead_ccm.proofs.FilledBlocks.{filled_blocks-empty}
-use Rattle.aead_ccm.proofs.Formats.{no_data, data_is_some}
-use Rattle.aead_ccm.proofs.Chains.{front_chained}
+use Rattle.aead_ccm.proofs.{Common.aes_encrypt, Common.ap, Common.arith, Common.chained_from, Common.drop, Common.encoded_data, Common.length, Common.length-drop, Common.number_block, Common.sym, Common.take, Common.take_all, Common.◌-◌, Common.◌<◌, Common.◌∙◌, Common.◌≡◌, FilledBlocks.filled_blocks-empty, Formats.no_data, Formats.data_is_some, Chains.front_chained}
 use Rattle.aead_ccm.proofs.chaining.chain_data.Goals as goal
 
 pub returns-then-is_empty : goal.returns-then-is_empty

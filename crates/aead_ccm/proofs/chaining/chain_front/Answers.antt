@@ -1,5 +1,4 @@
-use Rattle.aead_ccm.proofs.Common.{aes_encrypt, control_block, encoded_data, filled_blocks, length}
-use Rattle.aead_ccm.proofs.Chains.{front_is}
+use Rattle.aead_ccm.proofs.{Common.aes_encrypt, Common.control_block, Common.encoded_data, Common.filled_blocks, Common.length, Chains.front_is}
 use Rattle.aead_ccm.proofs.chaining.chain_front.Goals as goal
 
 pub returns : goal.returns

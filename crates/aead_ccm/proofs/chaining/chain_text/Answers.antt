@@ -1,5 +1,4 @@
-use Rattle.aead_ccm.proofs.Common.{aes_encrypt, arith, number_block, ◌∙◌}
-use Rattle.aead_ccm.proofs.Chains.{block_chained, all_chained}
+use Rattle.aead_ccm.proofs.{Common.aes_encrypt, Common.arith, Common.number_block, Common.◌∙◌, Chains.block_chained, Chains.all_chained}
 use Rattle.aead_ccm.proofs.chaining.chain_text.Goals as goal
 
 pub turns-preserved : goal.turns-preserved

@@ -1,5 +1,4 @@
-use Rattle.aead_ccm.proofs.Common.{ap, arith, length, min, refl, take, take_min, ℕ, ◌∙◌, ◌≡◌}
-use Rattle.aead_ccm.proofs.Formats.{short_front, long_front, short_rest, long_rest}
+use Rattle.aead_ccm.proofs.{Common.ap, Common.arith, Common.length, Common.min, Common.refl, Common.take, Common.take_min, Common.ℕ, Common.◌∙◌, Common.◌≡◌, Formats.short_front, Formats.long_front, Formats.short_rest, Formats.long_rest}
 use Rattle.aead_ccm.proofs.formatting.data_front.Goals as goal
 
 pub returns-then-ad-lt65280-clause-block : goal.returns-then-ad-lt65280-clause-block

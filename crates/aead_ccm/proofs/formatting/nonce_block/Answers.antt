@@ -1,5 +1,4 @@
-use Rattle.aead_ccm.proofs.Common.{ap, to_be_bytes, w128, ◌∙◌}
-use Rattle.aead_ccm.proofs.Formats.{nonce_block_is}
+use Rattle.aead_ccm.proofs.{Common.ap, Common.to_be_bytes, Common.w128, Common.◌∙◌, Formats.nonce_block_is}
 use Rattle.aead_ccm.proofs.formatting.nonce_block.Goals as goal
 
 pub returns : goal.returns

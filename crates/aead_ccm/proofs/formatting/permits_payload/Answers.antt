@@ -1,5 +1,4 @@
-use Rattle.aead_ccm.proofs.Common.{◌*◌, ◌-◌}
-use Rattle.aead_ccm.proofs.Payloads.{fits}
+use Rattle.aead_ccm.proofs.{Common.◌*◌, Common.◌-◌, Payloads.fits}
 use Rattle.aead_ccm.proofs.formatting.permits_payload.Goals as goal
 
 pub returns-else-nonce-eq7 : goal.returns-else-nonce-eq7

@@ -1,6 +1,5 @@
 use Rattle.aead_ccm.proofs.Common.{List, aes_encrypt, ap, arith, block_count, blocks_xored, chained_from, drop, filled_block, filled_blocks, length, masks, next_block_xored, number_block, refl, sym, take, xor_bytes, ℕ, ◌*◌, ◌++◌, ◌+◌, ◌-◌, ◌∙◌, ◌≡◌}
-use Rattle.aead_ccm.proofs.Chains.{block_chained, all_chained}
-use Rattle.aead_ccm.proofs.KeyStream.{length-masks, masks_next, piece_is, length_xored}
+use Rattle.aead_ccm.proofs.{Chains.block_chained, Chains.all_chained, KeyStream.length-masks, KeyStream.masks_next, KeyStream.piece_is, KeyStream.length_xored}
 use Rattle.aead_ccm.proofs.passes.open_text.Goals as goal
 
 pub turns-init : goal.turns-init

@@ -1,5 +1,4 @@
-use Rattle.aead_ccm.proofs.Common.{List, aes_encrypt, ap, arith, blocks_xored, drop, filled_block, masks, next_block_xored, number_block, refl, sym, take, xor_bytes, ℕ, ◌*◌, ◌++◌, ◌+◌, ◌-◌, ◌∙◌}
-use Rattle.aead_ccm.proofs.Chains.{block_chained, all_chained}
+use Rattle.aead_ccm.proofs.{Common.List, Common.aes_encrypt, Common.ap, Common.arith, Common.blocks_xored, Common.drop, Common.filled_block, Common.masks, Common.next_block_xored, Common.number_block, Common.refl, Common.sym, Common.take, Common.xor_bytes, Common.ℕ, Common.◌*◌, Common.◌++◌, Common.◌+◌, Common.◌-◌, Common.◌∙◌, Chains.block_chained, Chains.all_chained}
 use Rattle.aead_ccm.proofs.KeyStream.{length-masks, masks_next, left_over}
 use Rattle.aead_ccm.proofs.passes.seal_text.Goals as goal
 

@@ -1,5 +1,4 @@
-use Rattle.aead_gcm.proofs.Common.{ap, arith, ℕ, ◌%◌, ◌+◌, ◌^◌, ◌∙◌}
-use Rattle.aead_gcm.proofs.CounterBlocks.{one_more}
+use Rattle.aead_gcm.proofs.{Common.ap, Common.arith, Common.ℕ, Common.◌%◌, Common.◌+◌, Common.◌^◌, Common.◌∙◌, CounterBlocks.one_more}
 use Rattle.aead_gcm.proofs.counters.increment.Goals as goal
 
 pub returns : goal.returns

@@ -1,6 +1,5 @@
-use Rattle.aead_gcm.proofs.Common.{List, aes_encrypt, ap, arith, drop, gcm_stream, number_block, refl, sym, take, xor_bytes, ℕ, ◌*◌, ◌++◌, ◌+◌, ◌∙◌}
+use Rattle.aead_gcm.proofs.{Common.List, Common.aes_encrypt, Common.ap, Common.arith, Common.drop, Common.gcm_stream, Common.number_block, Common.refl, Common.sym, Common.take, Common.xor_bytes, Common.ℕ, Common.◌*◌, Common.◌++◌, Common.◌+◌, Common.◌∙◌, CounterBlocks.increased_by_0, CounterBlocks.increased_next, CounterBlocks.length-gcm_stream, CounterBlocks.gcm_stream_next}
 use Rattle.crypto_specs.proofs.XorBytes.{next_block_xored, blocks_xored}
-use Rattle.aead_gcm.proofs.CounterBlocks.{increased_by_0, increased_next, length-gcm_stream, gcm_stream_next}
 use Rattle.aead_gcm.proofs.counters.xor_stream.Goals as goal
 
 pub turns-init : goal.turns-init

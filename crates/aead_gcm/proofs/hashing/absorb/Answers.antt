@@ -1,5 +1,4 @@
-use Rattle.aead_gcm.proofs.Common.{ap, ap₂, arith, bit_xor, block_product, numbers_of, ℕ, ◌∙◌}
-use Rattle.aead_gcm.proofs.GhashSteps.{block_taken, all_taken}
+use Rattle.aead_gcm.proofs.{Common.ap, Common.ap₂, Common.arith, Common.bit_xor, Common.block_product, Common.numbers_of, Common.ℕ, Common.◌∙◌, GhashSteps.block_taken, GhashSteps.all_taken}
 use Rattle.aead_gcm.proofs.hashing.absorb.Goals as goal
 
 pub turns-preserved : goal.turns-preserved

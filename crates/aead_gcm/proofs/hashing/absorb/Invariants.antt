@@ -1,5 +1,4 @@
-use Rattle.aead_gcm.proofs.Common.{block_count, drop, length, ◌*◌, ◌-◌, ◌≡◌}
-use Rattle.aead_gcm.proofs.GhashSteps.{rest_from}
+use Rattle.aead_gcm.proofs.{Common.block_count, Common.drop, Common.length, Common.◌*◌, Common.◌-◌, Common.◌≡◌, GhashSteps.rest_from}
 use Rattle.aead_gcm.proofs.hashing.absorb.Given as goal
 
 abbrev pub invariant-turns : goal.invariant-turns

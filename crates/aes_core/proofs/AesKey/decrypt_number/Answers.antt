@@ -1,5 +1,4 @@
-use Rattle.aes_core.proofs.Common.{number_block, ◌∙◌}
-use Rattle.aes_core.proofs.KeyRules.{ready, inv_cipher_of}
+use Rattle.aes_core.proofs.{Common.number_block, Common.◌∙◌, KeyRules.ready, KeyRules.inv_cipher_of}
 use Rattle.aes_core.proofs.AesKey.decrypt_number.Goals as goal
 
 pub returns : goal.returns

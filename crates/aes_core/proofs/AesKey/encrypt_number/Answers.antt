@@ -1,5 +1,4 @@
-use Rattle.aes_core.proofs.Common.{number_block, ◌∙◌}
-use Rattle.aes_core.proofs.KeyRules.{ready, cipher_of}
+use Rattle.aes_core.proofs.{Common.number_block, Common.◌∙◌, KeyRules.ready, KeyRules.cipher_of}
 use Rattle.aes_core.proofs.AesKey.encrypt_number.Goals as goal
 
 pub returns : goal.returns

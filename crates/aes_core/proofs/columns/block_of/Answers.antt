@@ -1,5 +1,4 @@
-use Rattle.aes_core.proofs.Common.{arith}
-use Rattle.aes_core.proofs.WordBytes.{block_of_words}
+use Rattle.aes_core.proofs.{Common.arith, WordBytes.block_of_words}
 use Rattle.aes_core.proofs.columns.block_of.Goals as goal
 
 pub returns : goal.returns

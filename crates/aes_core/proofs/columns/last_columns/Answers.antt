@@ -1,5 +1,4 @@
-use Rattle.aes_core.proofs.Common.{[], sbox, ℕ, ◌∷◌}
-use Rattle.aes_core.proofs.ColumnSums.{four_columns}
+use Rattle.aes_core.proofs.{Common.[], Common.sbox, Common.ℕ, Common.◌∷◌, ColumnSums.four_columns}
 use Rattle.aes_core.proofs.columns.last_columns.Goals as goal
 
 pub returns : goal.returns

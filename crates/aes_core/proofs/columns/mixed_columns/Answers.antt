@@ -1,5 +1,4 @@
-use Rattle.aes_core.proofs.Common.{mixed_column, sbox, ℕ}
-use Rattle.aes_core.proofs.ColumnSums.{four_columns}
+use Rattle.aes_core.proofs.{Common.mixed_column, Common.sbox, Common.ℕ, ColumnSums.four_columns}
 use Rattle.aes_core.proofs.columns.mixed_columns.Goals as goal
 
 pub returns : goal.returns

@@ -1,5 +1,4 @@
-use Rattle.aes_core.proofs.Common.{[], inv_sbox, ℕ, ◌∷◌}
-use Rattle.aes_core.proofs.ColumnSums.{four_columns}
+use Rattle.aes_core.proofs.{Common.[], Common.inv_sbox, Common.ℕ, Common.◌∷◌, ColumnSums.four_columns}
 use Rattle.aes_core.proofs.inv_columns.inv_last_columns.Goals as goal
 
 pub returns : goal.returns

@@ -1,5 +1,4 @@
-use Rattle.aes_core.proofs.Common.{inv_sbox, mixed_column, ℕ}
-use Rattle.aes_core.proofs.ColumnSums.{four_columns}
+use Rattle.aes_core.proofs.{Common.inv_sbox, Common.mixed_column, Common.ℕ, ColumnSums.four_columns}
 use Rattle.aes_core.proofs.inv_columns.inv_mixed_columns.Goals as goal
 
 pub returns : goal.returns

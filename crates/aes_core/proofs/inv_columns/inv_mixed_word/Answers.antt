@@ -1,5 +1,4 @@
-use Rattle.aes_core.proofs.Common.{refl, ◌∙◌}
-use Rattle.aes_core.proofs.InvColumns.{unboxed}
+use Rattle.aes_core.proofs.{Common.refl, Common.◌∙◌, InvColumns.unboxed}
 use Rattle.aes_core.proofs.inv_columns.inv_mixed_word.Goals as goal
 
 pub returns : goal.returns

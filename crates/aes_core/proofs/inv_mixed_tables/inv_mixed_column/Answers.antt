@@ -1,6 +1,4 @@
-use Rattle.aes_core.proofs.Common.{INV_MIXED_ROWS, INV_SBOX, arith, inv_sbox, inv_sbox-byte}
-use Rattle.aes_core.proofs.BoxValues.{inv_sbox_at}
-use Rattle.aes_core.proofs.MixedTables.{column_of_tables, inv_mixed_rows}
+use Rattle.aes_core.proofs.{Common.INV_MIXED_ROWS, Common.INV_SBOX, Common.arith, Common.inv_sbox, Common.inv_sbox-byte, BoxValues.inv_sbox_at, MixedTables.column_of_tables, MixedTables.inv_mixed_rows}
 use Rattle.aes_core.proofs.inv_mixed_tables.inv_mixed_column.Goals as goal
 
 pub returns : goal.returns

@@ -1,5 +1,4 @@
-use Rattle.aes_core.proofs.Common.{arith, length-set, ◌*◌, ◌∙◌, ◌≡◌}
-use Rattle.aes_core.proofs.InvSchedule.{none_done, one_more_done, all_done}
+use Rattle.aes_core.proofs.{Common.arith, Common.length-set, Common.◌*◌, Common.◌∙◌, Common.◌≡◌, InvSchedule.none_done, InvSchedule.one_more_done, InvSchedule.all_done}
 use Rattle.aes_core.proofs.inv_schedule.inv_key_expansion.Goals as goal
 
 pub words-init : goal.words-init

@@ -1,5 +1,4 @@
-use Rattle.aes_core.proofs.Common.{length, ◌≡◌}
-use Rattle.aes_core.proofs.InvSchedule.{IsDoneBelow}
+use Rattle.aes_core.proofs.{Common.length, Common.◌≡◌, InvSchedule.IsDoneBelow}
 use Rattle.aes_core.proofs.inv_schedule.inv_key_expansion.Given as goal
 
 abbrev pub invariant-words : goal.invariant-words

@@ -1,6 +1,4 @@
-use Rattle.aes_core.proofs.Common.{MIXED_ROWS, SBOX, arith, sbox, sbox-byte}
-use Rattle.aes_core.proofs.BoxValues.{sbox_at}
-use Rattle.aes_core.proofs.MixedTables.{column_of_tables, mixed_rows}
+use Rattle.aes_core.proofs.{Common.MIXED_ROWS, Common.SBOX, Common.arith, Common.sbox, Common.sbox-byte, BoxValues.sbox_at, MixedTables.column_of_tables, MixedTables.mixed_rows}
 use Rattle.aes_core.proofs.mixed_tables.mixed_column.Goals as goal
 
 pub returns : goal.returns

@@ -1,5 +1,4 @@
-use Rattle.aes_core.proofs.Common.{List, add_round_key, ap, arith, word_bytes, number_block, rounds, shift_rows, sub_bytes, ℕ, ◌+◌, ◌-◌, ◌∙◌, ◌≡◌}
-use Rattle.aes_core.proofs.RoundKeys.{rounds_next}
+use Rattle.aes_core.proofs.{Common.List, Common.add_round_key, Common.ap, Common.arith, Common.word_bytes, Common.number_block, Common.rounds, Common.shift_rows, Common.sub_bytes, Common.ℕ, Common.◌+◌, Common.◌-◌, Common.◌∙◌, Common.◌≡◌, RoundKeys.rounds_next}
 use Rattle.aes_core.proofs.rounds.cipher.Goals as goal
 
 pub rounds-init : goal.rounds-init

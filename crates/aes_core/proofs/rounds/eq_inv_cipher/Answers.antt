@@ -1,5 +1,4 @@
-use Rattle.aes_core.proofs.Common.{IsInvScheduleOf, List, add_round_key, ap, ap₂, arith, word_bytes, inl, inv_rounds, inv_shift_rows, inv_sub_bytes, number_block, refl, ℕ, ◌+◌, ◌-◌, ◌∙◌, ◌≡◌, ◌≤◌}
-use Rattle.aes_core.proofs.InvColumns.{outer_key, eq_inv_next}
+use Rattle.aes_core.proofs.{Common.IsInvScheduleOf, Common.List, Common.add_round_key, Common.ap, Common.ap₂, Common.arith, Common.word_bytes, Common.inl, Common.inv_rounds, Common.inv_shift_rows, Common.inv_sub_bytes, Common.number_block, Common.refl, Common.ℕ, Common.◌+◌, Common.◌-◌, Common.◌∙◌, Common.◌≡◌, Common.◌≤◌, InvColumns.outer_key, InvColumns.eq_inv_next}
 use Rattle.aes_core.proofs.rounds.eq_inv_cipher.Goals as goal
 
 pub inv_rounds-init : goal.inv_rounds-init

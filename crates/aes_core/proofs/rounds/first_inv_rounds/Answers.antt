@@ -1,6 +1,4 @@
-use Rattle.aes_core.proofs.Common.{List, add_round_key, ap, arith, word_bytes, inr, inv_rounds, number_block, ℕ, ◌-◌, ◌∙◌}
-use Rattle.aes_core.proofs.InvColumns.{outer_key, eq_inv_next}
-use Rattle.aes_core.proofs.RoundKeys.{inv_rounds_none}
+use Rattle.aes_core.proofs.{Common.List, Common.add_round_key, Common.ap, Common.arith, Common.word_bytes, Common.inr, Common.inv_rounds, Common.number_block, Common.ℕ, Common.◌-◌, Common.◌∙◌, InvColumns.outer_key, InvColumns.eq_inv_next, RoundKeys.inv_rounds_none}
 use Rattle.aes_core.proofs.rounds.first_inv_rounds.Goals as goal
 
 pub returns-then-count-eq1 : goal.returns-then-count-eq1

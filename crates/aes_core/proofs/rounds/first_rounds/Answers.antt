@@ -1,5 +1,4 @@
-use Rattle.aes_core.proofs.Common.{List, add_round_key, ap, arith, word_bytes, number_block, rounds, ℕ, ◌-◌, ◌∙◌}
-use Rattle.aes_core.proofs.RoundKeys.{rounds_none, rounds_next}
+use Rattle.aes_core.proofs.{Common.List, Common.add_round_key, Common.ap, Common.arith, Common.word_bytes, Common.number_block, Common.rounds, Common.ℕ, Common.◌-◌, Common.◌∙◌, RoundKeys.rounds_none, RoundKeys.rounds_next}
 use Rattle.aes_core.proofs.rounds.first_rounds.Goals as goal
 
 pub returns-then-count-eq1 : goal.returns-then-count-eq1

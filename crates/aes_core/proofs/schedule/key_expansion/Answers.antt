@@ -1,5 +1,4 @@
-use Rattle.aes_core.proofs.Common.{arith, length-set, ◌*◌, ◌+◌, ◌-◌, ◌∙◌, ◌≡◌}
-use Rattle.aes_core.proofs.Expansion.{word_added, expanded_next, schedule_done, schedule_begins, words_start}
+use Rattle.aes_core.proofs.{Common.arith, Common.length-set, Common.◌*◌, Common.◌+◌, Common.◌-◌, Common.◌∙◌, Common.◌≡◌, Expansion.word_added, Expansion.expanded_next, Expansion.schedule_done, Expansion.schedule_begins, Expansion.words_start}
 use Rattle.aes_core.proofs.schedule.key_expansion.Goals as goal
 
 pub words-init : goal.words-init

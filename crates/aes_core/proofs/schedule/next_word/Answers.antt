@@ -1,5 +1,4 @@
-use Rattle.aes_core.proofs.Common.{ap, schedule_core, ◌∙◌}
-use Rattle.aes_core.proofs.Expansion.{next_word_is}
+use Rattle.aes_core.proofs.{Common.ap, Common.schedule_core, Common.◌∙◌, Expansion.next_word_is}
 use Rattle.aes_core.proofs.schedule.next_word.Goals as goal
 
 pub returns : goal.returns

@@ -1,6 +1,4 @@
-use Rattle.aes_core.proofs.Common.{ap, sub_word, ◌∙◌}
-use Rattle.aes_core.proofs.BoxValues.{round_constant_at}
-use Rattle.aes_core.proofs.Expansion.{core_at_start}
+use Rattle.aes_core.proofs.{Common.ap, Common.sub_word, Common.◌∙◌, BoxValues.round_constant_at, Expansion.core_at_start}
 use Rattle.aes_core.proofs.schedule.schedule_core.Goals as goal
 
 pub returns-then-i-words-eq0 : goal.returns-then-i-words-eq0

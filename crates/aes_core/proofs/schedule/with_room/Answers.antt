@@ -1,5 +1,4 @@
-use Rattle.aes_core.proofs.Common.{ap, arith, word_bytes, length, length-set, take, take-length, ℕ, ◌*◌, ◌/◌, ◌∙◌, ◌≡◌}
-use Rattle.aes_core.proofs.Expansion.{key_word}
+use Rattle.aes_core.proofs.{Common.ap, Common.arith, Common.word_bytes, Common.length, Common.length-set, Common.take, Common.take-length, Common.ℕ, Common.◌*◌, Common.◌/◌, Common.◌∙◌, Common.◌≡◌, Expansion.key_word}
 use Rattle.aes_core.proofs.schedule.with_room.Goals as goal
 
 pub words-preserved : goal.words-preserved

@@ -1,5 +1,4 @@
-use Rattle.aes_core.proofs.Common.{arith}
-use Rattle.aes_core.proofs.BoxValues.{sbox_at}
+use Rattle.aes_core.proofs.{Common.arith, BoxValues.sbox_at}
 use Rattle.aes_core.proofs.tables.sub_byte.Goals as goal
 
 pub returns : goal.returns

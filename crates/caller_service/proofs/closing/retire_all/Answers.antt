@@ -1,5 +1,4 @@
-use Rattle.caller_service.proofs.Common.{IsReady, MakesNoCall, ap, arith, get_or, get_or_default, length, subst, sym, world, ◌<◌, ◌∙◌}
-use Rattle.caller_service.proofs.Ended.{one_retired}
+use Rattle.caller_service.proofs.{Common.IsReady, Common.MakesNoCall, Common.ap, Common.arith, Common.get_or, Common.get_or_default, Common.length, Common.subst, Common.sym, Common.world, Common.◌<◌, Common.◌∙◌, Ended.one_retired}
 use Rattle.caller_service.proofs.closing.retire_all.Goals as goal
 
 pub loop-caller-init : goal.loop-caller-init

@@ -1,5 +1,4 @@
-use Rattle.caller_service.proofs.Common.{world}
-use Rattle.caller_service.proofs.Ended.{AreRetiring}
+use Rattle.caller_service.proofs.{Common.world, Ended.AreRetiring}
 use Rattle.caller_service.proofs.closing.retire_all.Given as goal
 
 abbrev pub invariant-loop-caller : goal.invariant-loop-caller

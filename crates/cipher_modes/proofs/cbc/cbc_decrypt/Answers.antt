@@ -1,6 +1,4 @@
-use Rattle.cipher_modes.proofs.Common.{List, aes_decrypt, ap, arith, block_of_xor, cbc_decrypt, cbc_plain_blocks, length, length-number_block, number_block, refl, sym, xor_bytes, ℕ, ◌∙◌, ◌∷◌}
-use Rattle.cipher_modes.proofs.Chaining.{cbc_plain_block}
-use Rattle.cipher_modes.proofs.InPlace.{mode_from, block_done, all_done, none_done}
+use Rattle.cipher_modes.proofs.{Common.List, Common.aes_decrypt, Common.ap, Common.arith, Common.block_of_xor, Common.cbc_decrypt, Common.cbc_plain_blocks, Common.length, Common.length-number_block, Common.number_block, Common.refl, Common.sym, Common.xor_bytes, Common.ℕ, Common.◌∙◌, Common.◌∷◌, Chaining.cbc_plain_block, InPlace.mode_from, InPlace.block_done, InPlace.all_done, InPlace.none_done}
 use Rattle.cipher_modes.proofs.cbc.cbc_decrypt.Goals as goal
 
 pub turns-init : goal.turns-init

@@ -1,5 +1,4 @@
-use Rattle.cipher_modes.proofs.Common.{aes_decrypt, cbc_decrypt, cbc_plain_blocks, number_block, ◌≡◌}
-use Rattle.cipher_modes.proofs.InPlace.{mode_from}
+use Rattle.cipher_modes.proofs.{Common.aes_decrypt, Common.cbc_decrypt, Common.cbc_plain_blocks, Common.number_block, Common.◌≡◌, InPlace.mode_from}
 use Rattle.cipher_modes.proofs.cbc.cbc_decrypt.Given as goal
 
 abbrev pub invariant-turns : goal.invariant-turns

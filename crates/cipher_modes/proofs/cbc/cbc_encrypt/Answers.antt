@@ -1,6 +1,4 @@
-use Rattle.cipher_modes.proofs.Common.{List, aes_encrypt, ap, arith, block_of_xor, cbc_blocks, cbc_encrypt, length, length-number_block, number_block, refl, sym, xor_bytes, ℕ, ◌∙◌, ◌∷◌}
-use Rattle.cipher_modes.proofs.Chaining.{cbc_block}
-use Rattle.cipher_modes.proofs.InPlace.{mode_from, block_done, all_done, none_done}
+use Rattle.cipher_modes.proofs.{Common.List, Common.aes_encrypt, Common.ap, Common.arith, Common.block_of_xor, Common.cbc_blocks, Common.cbc_encrypt, Common.length, Common.length-number_block, Common.number_block, Common.refl, Common.sym, Common.xor_bytes, Common.ℕ, Common.◌∙◌, Common.◌∷◌, Chaining.cbc_block, InPlace.mode_from, InPlace.block_done, InPlace.all_done, InPlace.none_done}
 use Rattle.cipher_modes.proofs.cbc.cbc_encrypt.Goals as goal
 
 pub turns-init : goal.turns-init

@@ -1,5 +1,4 @@
-use Rattle.cipher_modes.proofs.Common.{aes_encrypt, cbc_blocks, cbc_encrypt, number_block, ◌≡◌}
-use Rattle.cipher_modes.proofs.InPlace.{mode_from}
+use Rattle.cipher_modes.proofs.{Common.aes_encrypt, Common.cbc_blocks, Common.cbc_encrypt, Common.number_block, Common.◌≡◌, InPlace.mode_from}
 use Rattle.cipher_modes.proofs.cbc.cbc_encrypt.Given as goal
 
 abbrev pub invariant-turns : goal.invariant-turns

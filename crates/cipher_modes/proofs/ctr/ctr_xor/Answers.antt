@@ -1,6 +1,5 @@
 use Rattle.cipher_modes.proofs.Common.{List, aes_encrypt, ap, arith, block_number, ctr_xor, drop, key_stream, length-aes_encrypt, number_block, refl, sym, take, xor_bytes, ℕ, ◌*◌, ◌++◌, ◌+◌, ◌∙◌}
-use Rattle.crypto_specs.proofs.KeyStream.{length-key_stream}
-use Rattle.crypto_specs.proofs.XorBytes.{next_block_xored, blocks_xored}
+use Rattle.crypto_specs.proofs.{KeyStream.length-key_stream, XorBytes.next_block_xored, XorBytes.blocks_xored}
 use Rattle.cipher_modes.proofs.CounterBlocks.{key_stream_next, counter_block_is, counter_next, counter_start}
 use Rattle.cipher_modes.proofs.ctr.ctr_xor.Goals as goal
 

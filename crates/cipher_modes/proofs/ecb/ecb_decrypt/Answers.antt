@@ -1,5 +1,4 @@
-use Rattle.cipher_modes.proofs.Common.{List, aes_decrypt, ap, arith, ecb_blocks, ecb_decrypt, length, length-number_block, map, refl, sym, ℕ, ◌∙◌, ◌∷◌}
-use Rattle.cipher_modes.proofs.InPlace.{block_done, all_done, none_done}
+use Rattle.cipher_modes.proofs.{Common.List, Common.aes_decrypt, Common.ap, Common.arith, Common.ecb_blocks, Common.ecb_decrypt, Common.length, Common.length-number_block, Common.map, Common.refl, Common.sym, Common.ℕ, Common.◌∙◌, Common.◌∷◌, InPlace.block_done, InPlace.all_done, InPlace.none_done}
 use Rattle.cipher_modes.proofs.ecb.ecb_decrypt.Goals as goal
 
 pub turns-init : goal.turns-init

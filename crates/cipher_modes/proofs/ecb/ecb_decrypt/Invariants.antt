@@ -1,5 +1,4 @@
-use Rattle.cipher_modes.proofs.Common.{aes_decrypt, ecb_blocks, ecb_decrypt, ◌≡◌}
-use Rattle.cipher_modes.proofs.InPlace.{mode_from}
+use Rattle.cipher_modes.proofs.{Common.aes_decrypt, Common.ecb_blocks, Common.ecb_decrypt, Common.◌≡◌, InPlace.mode_from}
 use Rattle.cipher_modes.proofs.ecb.ecb_decrypt.Given as goal
 
 abbrev pub invariant-turns : goal.invariant-turns

@@ -1,5 +1,4 @@
-use Rattle.cipher_modes.proofs.Common.{List, aes_encrypt, ap, arith, ecb_blocks, ecb_encrypt, length, length-number_block, map, refl, sym, ℕ, ◌∙◌, ◌∷◌}
-use Rattle.cipher_modes.proofs.InPlace.{block_done, all_done, none_done}
+use Rattle.cipher_modes.proofs.{Common.List, Common.aes_encrypt, Common.ap, Common.arith, Common.ecb_blocks, Common.ecb_encrypt, Common.length, Common.length-number_block, Common.map, Common.refl, Common.sym, Common.ℕ, Common.◌∙◌, Common.◌∷◌, InPlace.block_done, InPlace.all_done, InPlace.none_done}
 use Rattle.cipher_modes.proofs.ecb.ecb_encrypt.Goals as goal
 
 pub turns-init : goal.turns-init

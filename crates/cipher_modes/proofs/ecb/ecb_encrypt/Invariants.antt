@@ -1,5 +1,4 @@
-use Rattle.cipher_modes.proofs.Common.{aes_encrypt, ecb_blocks, ecb_encrypt, ◌≡◌}
-use Rattle.cipher_modes.proofs.InPlace.{mode_from}
+use Rattle.cipher_modes.proofs.{Common.aes_encrypt, Common.ecb_blocks, Common.ecb_encrypt, Common.◌≡◌, InPlace.mode_from}
 use Rattle.cipher_modes.proofs.ecb.ecb_encrypt.Given as goal
 
 abbrev pub invariant-turns : goal.invariant-turns

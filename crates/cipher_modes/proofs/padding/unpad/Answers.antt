@@ -1,6 +1,5 @@
-use Rattle.cipher_modes.proofs.Common.{ap, arith, length, refl, slice_index, sym, take, take_all, ◌∙◌, ◌≡◌}
+use Rattle.cipher_modes.proofs.{Common.ap, Common.arith, Common.length, Common.refl, Common.slice_index, Common.sym, Common.take, Common.take_all, Common.◌∙◌, Common.◌≡◌, PaddingRules.fits, PaddingRules.misfits}
 use Rattle.std.proofs.lemmas.Bool.Decides.{not_from_Decides}
-use Rattle.cipher_modes.proofs.PaddingRules.{fits, misfits}
 use Rattle.cipher_modes.proofs.padding.unpad.Goals as goal
 
 pub returns-then-fits : goal.returns-then-fits

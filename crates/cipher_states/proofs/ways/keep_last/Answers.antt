@@ -1,6 +1,5 @@
 use Rattle.cipher_states.proofs.Common.{List, [], ap, arith, drop, length, sym, ℕ, ◌%◌, ◌++◌, ◌+◌, ◌-◌, ◌<◌, ◌∙◌, ◌∷◌, ◌≡◌, ◌≤◌}
-use Rattle.std.proofs.Math.Seq.{drop-append-add}
-use Rattle.std.proofs.lemmas.Slice.{between_to_end}
+use Rattle.std.proofs.{Math.Seq.drop-append-add, lemmas.Slice.between_to_end}
 use Rattle.cipher_states.proofs.ways.keep_last.Goals as goal
 
 -- the end of a text behind a block, where the text has a block, and where it has none

@@ -1,5 +1,4 @@
-use Rattle.command_words.proofs.Common.{first_word, label_named, labels_in, last_word, split_once_first, arith, rules, sym}
-use Rattle.command_words.proofs.Parts.{is_label, is_no_label, at_last}
+use Rattle.command_words.proofs.{Common.first_word, Common.label_named, Common.labels_in, Common.last_word, Common.split_once_first, Common.arith, Common.rules, Common.sym, Parts.is_label, Parts.is_no_label, Parts.at_last}
 use Rattle.command_words.proofs.labels.are_labels.Goals as goal
 
 pub returns-then-is_none : goal.returns-then-is_none

@@ -1,6 +1,5 @@
-use Rattle.command_words.proofs.Common.{state, texts, ap, arith, map, refl, sym, ◌∙◌}
+use Rattle.command_words.proofs.{Common.state, Common.texts, Common.ap, Common.arith, Common.map, Common.refl, Common.sym, Common.◌∙◌, Settings.reads_all, Settings.goes_on, Settings.stops, Settings.ends}
 use Rattle.std.specs.Option.{option_map}
-use Rattle.command_words.proofs.Settings.{reads_all, goes_on, stops, ends}
 use Rattle.command_words.proofs.options.read_options.Goals as goal
 
 pub returns-in_err-reading : goal.returns-in_err-reading

@@ -1,5 +1,4 @@
-use Rattle.command_words.proofs.Common.{found_of, rows_of, codes, ◌∙◌}
-use Rattle.command_words.proofs.Asked.{Met, asks}
+use Rattle.command_words.proofs.{Common.found_of, Common.rows_of, Common.codes, Common.◌∙◌, Asked.Met, Asked.asks}
 use Rattle.command_words.proofs.parser.command_in.Goals as goal
 
 pub returns-in-Some-generate-default-clause-value : goal.returns-in-Some-generate-default-clause-value

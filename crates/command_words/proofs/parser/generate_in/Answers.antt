@@ -1,5 +1,4 @@
-use Rattle.command_words.proofs.Common.{Generate, found_of, None, Some, ap, option_map, ◌∙◌}
-use Rattle.command_words.proofs.Asked.{asks_count}
+use Rattle.command_words.proofs.{Common.Generate, Common.found_of, Common.None, Common.Some, Common.ap, Common.option_map, Common.◌∙◌, Asked.asks_count}
 use Rattle.command_words.proofs.parser.generate_in.Goals as goal
 
 pub returns-in_err-get_str-clause-value : goal.returns-in_err-get_str-clause-value

@@ -1,5 +1,4 @@
-use Rattle.command_words.proofs.Common.{App, IfErr-weaker, IfOk-weaker, app_of, asked_of, is_simple, program, subcommand_of, takes, ap, map, rules, ◌∙◌, ◌≡◌}
-use Rattle.command_words.proofs.Accepted.{accepted}
+use Rattle.command_words.proofs.{Common.App, Common.IfErr-weaker, Common.IfOk-weaker, Common.app_of, Common.asked_of, Common.is_simple, Common.program, Common.subcommand_of, Common.takes, Common.ap, Common.map, Common.rules, Common.◌∙◌, Common.◌≡◌, Accepted.accepted}
 use Rattle.command_words.proofs.parser.matches_of.Goals as goal
 
 pub returns : goal.returns

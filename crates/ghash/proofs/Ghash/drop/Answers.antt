@@ -1,5 +1,4 @@
-use Rattle.ghash.proofs.Common.{ap, products_of, shifted, sym, ℕ, ◌∙◌, ◌≡◌}
-use Rattle.ghash.proofs.GroupProducts.{products_of_zero, far_products_of_zero}
+use Rattle.ghash.proofs.{Common.ap, Common.products_of, Common.shifted, Common.sym, Common.ℕ, Common.◌∙◌, Common.◌≡◌, GroupProducts.products_of_zero, GroupProducts.far_products_of_zero}
 use Rattle.ghash.proofs.Ghash.drop.Goals as goal
 
 pub release-requires-clause-products : goal.release-requires-clause-products

@@ -1,5 +1,4 @@
-use Rattle.ghash.proofs.Common.{List, ap, products_of, shifted, slice_index, sym, ℕ, ◌∙◌, ◌≡◌}
-use Rattle.ghash.proofs.GroupProducts.{one_in_products}
+use Rattle.ghash.proofs.{Common.List, Common.ap, Common.products_of, Common.shifted, Common.slice_index, Common.sym, Common.ℕ, Common.◌∙◌, Common.◌≡◌, GroupProducts.one_in_products}
 use Rattle.ghash.proofs.Ghash.new.Goals as goal
 
 subkey_is : (t : List ℕ) (h : ℕ) → t ≡ products_of h → slice_index t 8 ≡ h

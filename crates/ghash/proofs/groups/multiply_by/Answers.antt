@@ -1,5 +1,4 @@
-use Rattle.ghash.proofs.Common.{List, ap, arith, bit_xor, joined_halves, products_of, refl, shifted, slice_index, sum_of_multiples, ℕ, ◌%◌, ◌*◌, ◌+◌, ◌/◌, ◌<◌, ◌^◌, ◌∙◌, ◌≡◌}
-use Rattle.ghash.proofs.GroupProducts.{halves_summed, next_groups, product_in}
+use Rattle.ghash.proofs.{Common.List, Common.ap, Common.arith, Common.bit_xor, Common.joined_halves, Common.products_of, Common.refl, Common.shifted, Common.slice_index, Common.sum_of_multiples, Common.ℕ, Common.◌%◌, Common.◌*◌, Common.◌+◌, Common.◌/◌, Common.◌<◌, Common.◌^◌, Common.◌∙◌, Common.◌≡◌, GroupProducts.halves_summed, GroupProducts.next_groups, GroupProducts.product_in}
 use Rattle.ghash.proofs.Halves.{byte_is, low_group, high_group}
 use Rattle.ghash.proofs.groups.multiply_by.Goals as goal
 

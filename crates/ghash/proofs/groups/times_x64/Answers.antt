@@ -1,5 +1,4 @@
-use Rattle.ghash.proofs.Common.{ap, arith, joined_halves, shifted, times_x4, xor_zero_r, ℕ, ◌*◌, ◌∙◌}
-use Rattle.ghash.proofs.GroupProducts.{shifted_more}
+use Rattle.ghash.proofs.{Common.ap, Common.arith, Common.joined_halves, Common.shifted, Common.times_x4, Common.xor_zero_r, Common.ℕ, Common.◌*◌, Common.◌∙◌, GroupProducts.shifted_more}
 use Rattle.ghash.proofs.groups.times_x64.Goals as goal
 
 pub groups-init : goal.groups-init

@@ -1,5 +1,4 @@
-use Rattle.hmac_ops.proofs.Common.{ap, arith, block_length, zero_padded, hash_of, length, length-hash_of, length_bounds, refl, take, ◌∙◌, ◌≤◌}
-use Rattle.hmac_ops.proofs.Padding.{key_block_short, key_block_long}
+use Rattle.hmac_ops.proofs.{Common.ap, Common.arith, Common.block_length, Common.zero_padded, Common.hash_of, Common.length, Common.length-hash_of, Common.length_bounds, Common.refl, Common.take, Common.◌∙◌, Common.◌≤◌, Padding.key_block_short, Padding.key_block_long}
 use Rattle.hmac_ops.proofs.pads.key_block.Goals as goal
 
 pub returns-then-key-block_length : goal.returns-then-key-block_length

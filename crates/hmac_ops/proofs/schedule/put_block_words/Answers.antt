@@ -1,5 +1,4 @@
-use Rattle.hmac_ops.proofs.Common.{arith, first_words, rules}
-use Rattle.hmac_ops.proofs.ScheduleWords.{first_words-more}
+use Rattle.hmac_ops.proofs.{Common.arith, Common.first_words, Common.rules, ScheduleWords.first_words-more}
 use Rattle.hmac_ops.proofs.schedule.put_block_words.Goals as goal
 
 pub words-init : goal.words-init

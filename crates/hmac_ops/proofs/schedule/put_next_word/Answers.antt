@@ -1,5 +1,4 @@
-use Rattle.hmac_ops.proofs.Common.{arith, refl}
-use Rattle.hmac_ops.proofs.ScheduleWords.{schedule-more}
+use Rattle.hmac_ops.proofs.{Common.arith, Common.refl, ScheduleWords.schedule-more}
 use Rattle.hmac_ops.proofs.schedule.put_next_word.Goals as goal
 
 pub returns : goal.returns

@@ -1,5 +1,4 @@
-use Rattle.hmac_ops.proofs.Common.{arith}
-use Rattle.hmac_ops.proofs.Rotations.{rotated-three}
+use Rattle.hmac_ops.proofs.{Common.arith, Rotations.rotated-three}
 use Rattle.hmac_ops.proofs.words.big_sigma1.Goals as goal
 
 pub returns : goal.returns

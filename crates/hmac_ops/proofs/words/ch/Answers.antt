@@ -1,5 +1,4 @@
-use Rattle.hmac_ops.proofs.Common.{arith}
-use Rattle.hmac_ops.proofs.Choices.{ch_by_three}
+use Rattle.hmac_ops.proofs.{Common.arith, Choices.ch_by_three}
 use Rattle.hmac_ops.proofs.words.ch.Goals as goal
 
 pub returns : goal.returns

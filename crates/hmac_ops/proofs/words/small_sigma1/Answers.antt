@@ -1,5 +1,4 @@
-use Rattle.hmac_ops.proofs.Common.{ap, arith, bit_xor, ℕ, ◌/◌, ◌^◌}
-use Rattle.hmac_ops.proofs.Rotations.{rotated-two}
+use Rattle.hmac_ops.proofs.{Common.ap, Common.arith, Common.bit_xor, Common.ℕ, Common.◌/◌, Common.◌^◌, Rotations.rotated-two}
 use Rattle.hmac_ops.proofs.words.small_sigma1.Goals as goal
 
 pub returns : goal.returns

@@ -1,5 +1,4 @@
-use Rattle.kdf_core.proofs.Common.{[], block_length, hash_of, ◌∙◌}
-use Rattle.kdf_core.proofs.Blocks.{next_block}
+use Rattle.kdf_core.proofs.{Common.[], Common.block_length, Common.hash_of, Common.◌∙◌, Blocks.next_block}
 use Rattle.kdf_core.proofs.hkdf.hkdf_block.Goals as goal
 
 pub returns-clause-length : goal.returns-clause-length

@@ -1,6 +1,5 @@
-use Rattle.kdf_core.proofs.Common.{[], arith, block_length, hash_length, hash_of, ◌∙◌, ◌≤◌}
+use Rattle.kdf_core.proofs.{Common.[], Common.arith, Common.block_length, Common.hash_length, Common.hash_of, Common.◌∙◌, Common.◌≤◌, Blocks.extract_by_hmac}
 use Rattle.hash_ops.proofs.Digests.{length-hash_of, length_bounds}
-use Rattle.kdf_core.proofs.Blocks.{extract_by_hmac}
 use Rattle.kdf_core.proofs.hkdf.hkdf_extract.Goals as goal
 
 pub returns-clause-key : goal.returns-clause-key

@@ -1,5 +1,4 @@
-use Rattle.kdf_core.proofs.Common.{block_length, drop, hash_of, length, pbkdf2_block, replicate, take, ◌-◌, ◌≡◌}
-use Rattle.kdf_core.proofs.Turns.{summed}
+use Rattle.kdf_core.proofs.{Common.block_length, Common.drop, Common.hash_of, Common.length, Common.pbkdf2_block, Common.replicate, Common.take, Common.◌-◌, Common.◌≡◌, Turns.summed}
 use Rattle.kdf_core.proofs.pbkdf2.pbkdf2_block.Given as goal
 
 abbrev pub invariant-turns : goal.invariant-turns

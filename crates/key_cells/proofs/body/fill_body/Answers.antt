@@ -1,5 +1,4 @@
-use Rattle.key_cells.proofs.Common.{List, ap, written, ℕ, ◌∙◌}
-use Rattle.key_cells.proofs.Bodies.{body_made}
+use Rattle.key_cells.proofs.{Common.List, Common.ap, Common.written, Common.ℕ, Common.◌∙◌, Bodies.body_made}
 use Rattle.key_cells.proofs.body.fill_body.Goals as goal
 
 pub returns : goal.returns

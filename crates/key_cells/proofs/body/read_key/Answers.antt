@@ -1,5 +1,4 @@
-use Rattle.key_cells.proofs.Common.{IsNoRecord, IsRecord, List, false, length, refl, replicate, subst, sym, true, ℕ, ◌+◌, ◌∙◌, ◌≡◌}
-use Rattle.key_cells.proofs.Bodies.{no_id, no_front, no_size, no_record, no_rest, key_found, tail_of, record_at}
+use Rattle.key_cells.proofs.{Common.IsNoRecord, Common.IsRecord, Common.List, Common.false, Common.length, Common.refl, Common.replicate, Common.subst, Common.sym, Common.true, Common.ℕ, Common.◌+◌, Common.◌∙◌, Common.◌≡◌, Bodies.no_id, Bodies.no_front, Bodies.no_size, Bodies.no_record, Bodies.no_rest, Bodies.key_found, Bodies.tail_of, Bodies.record_at}
 use Rattle.key_cells.proofs.body.read_key.Goals as goal
 
 pub returns-then-not-is_persistent : goal.returns-then-not-is_persistent

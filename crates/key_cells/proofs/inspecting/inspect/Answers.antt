@@ -1,5 +1,4 @@
-use Rattle.key_cells.proofs.Common.{IfErr-weaker}
-use Rattle.key_cells.proofs.Inspection.{damaged_or_memory, opens_or_memory}
+use Rattle.key_cells.proofs.{Common.IfErr-weaker, Inspection.damaged_or_memory, Inspection.opens_or_memory}
 use Rattle.key_cells.proofs.inspecting.inspect.Goals as goal
 
 pub returns-clause-opened : goal.returns-clause-opened

@@ -1,5 +1,4 @@
-use Rattle.key_cells.proofs.Common.{Some, ap, arith, length, length-set, part, ◌<◌, ◌∙◌}
-use Rattle.key_cells.proofs.{Finding.first_damaged, Finding.new_is_unread, Finding.not_damaged, Finding.one_more, Finding.reads_more, Finding.unread_more, Inspection.first_keys_more, Inspection.no_keys}
+use Rattle.key_cells.proofs.{Common.Some, Common.ap, Common.arith, Common.length, Common.length-set, Common.part, Common.sym, Common.◌<◌, Common.◌∙◌, Finding.first_damaged, Finding.new_is_unread, Finding.not_damaged, Finding.one_more, Finding.reads_more, Finding.unread_more, Inspection.first_keys_more, Inspection.no_keys}
 use Rattle.key_cells.proofs.inspecting.read_keys.Goals as goal
 
 pub loop-cell-init : goal.loop-cell-init
@@ -14,7 +13,7 @@ loop-cell-init c = record {
 pub returns-in_default-clause-fault : goal.returns-in_default-clause-fault
 returns-in_default-clause-fault c =
     let i = c.loop-cell.invariant in
-    first_damaged (Some c.args.image.now) c.loop-cell.cell c.loop-cell.states c.cell_at-room.result.now (omega arith) i.count c.requires.store i.read i.one i.unread
+    first_damaged (Some c.args.image.now) c.args.cells c.loop-cell.cell c.loop-cell.states c.cell_at-room.result.now (omega arith) (c.requires.store, sym c.requires.cells) i.read i.one i.unread
     (c.cell_at-room.ensures ∙ ap (λ n. part n 1088 c.args.image.now) c.place.ensures) c.in_default.ensures
 
 pub loop-cell-preserved : goal.loop-cell-preserved
@@ -38,5 +37,5 @@ returns-clause-opens c =
     let i = c.loop-cell.invariant in
     record {
       store = c.requires.store;
-      sound = λ cell lt damaged. not_damaged c.loop-cell.cell c.loop-cell.states c.args.image.now i.read i.one cell (omega (arith, lt)) damaged;
+      sound = λ cell lt damaged. not_damaged c.loop-cell.cell c.loop-cell.states c.args.image.now i.read i.one cell (omega (arith, lt, c.requires.cells)) damaged;
     }

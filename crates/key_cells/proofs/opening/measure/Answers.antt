@@ -1,5 +1,4 @@
-use Rattle.key_cells.proofs.Common.{LeavesWhatIsRead, List, Option, subst, sym, ℕ}
-use Rattle.key_cells.proofs.{Moves.on_ok, Opened.calm_both, Opened.calm_one, Opened.durable_still}
+use Rattle.key_cells.proofs.{Common.LeavesWhatIsRead, Common.List, Common.Option, Common.subst, Common.sym, Common.ℕ, Moves.on_ok, Opened.calm_both, Opened.calm_one, Opened.durable_still}
 use Rattle.key_cells.proofs.opening.measure.Goals as goal
 
 pub returns-clause-calm : goal.returns-clause-calm

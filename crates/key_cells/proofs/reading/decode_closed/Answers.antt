@@ -1,5 +1,4 @@
-use Rattle.key_cells.proofs.Common.{List, ap, arith, drop, false, length, length-drop, refl, replicate, sym, take, take_all, true, zeros, ℕ, ◌∙◌, ◌≡◌}
-use Rattle.key_cells.proofs.{Finding.gate_closed, Steps.zeros_are}
+use Rattle.key_cells.proofs.{Common.List, Common.ap, Common.arith, Common.drop, Common.false, Common.length, Common.length-drop, Common.refl, Common.replicate, Common.sym, Common.take, Common.take_all, Common.true, Common.zeros, Common.ℕ, Common.◌∙◌, Common.◌≡◌, Finding.gate_closed, Steps.zeros_are}
 use Rattle.key_cells.proofs.reading.decode_closed.Goals as goal
 
 whole : (bytes : List ℕ) → length bytes ≡ 1088 → take 1087 (drop 1 bytes) ≡ drop 1 bytes

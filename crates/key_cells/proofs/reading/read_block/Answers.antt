@@ -1,6 +1,5 @@
-use Rattle.key_cells.proofs.Common.{arith, on_ok_weaker, ◌*◌, ◌+◌, ◌∙◌, ◌≡◌}
+use Rattle.key_cells.proofs.{Common.arith, Common.on_ok_weaker, Common.◌*◌, Common.◌+◌, Common.◌∙◌, Common.◌≡◌, CellsRead.gives_part}
 use Rattle.std.specs.Prelude.{◌/◌}
-use Rattle.key_cells.proofs.CellsRead.{gives_part}
 use Rattle.key_cells.proofs.reading.read_block.Goals as goal
 
 pub returns-then-cell-eq0-clause-bytes : goal.returns-then-cell-eq0-clause-bytes

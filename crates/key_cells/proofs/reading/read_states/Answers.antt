@@ -1,5 +1,5 @@
 use Rattle.key_cells.proofs.Common.{ap, arith, length, length-set, refl, ◌<◌, ◌∙◌}
-use Rattle.key_cells.proofs.{CellsRead.for_told, CellsRead.of_cell, CellsRead.same_block, Finding.new_is_unread, Finding.reads_more, Finding.one_more, Finding.unread_more, Finding.numbered_more, Finding.named_more, Finding.keys_more, Finding.first_damaged, Opened.calm_both, Opened.calm_none}
+use Rattle.key_cells.proofs.{CellsRead.for_told, CellsRead.of_cell, CellsRead.same_block, Finding.new_is_unread, Finding.reads_more, Finding.one_more, Finding.unread_more, Finding.numbered_more, Finding.named_more, Finding.keys_more, Finding.named_all, Finding.numbered_all, Finding.one_all, Finding.first_damaged, Opened.calm_both, Opened.calm_none}
 use Rattle.key_cells.proofs.reading.read_states.Goals as goal
 
 pub returns-in_default-clause-cause : goal.returns-in_default-clause-cause
@@ -7,15 +7,24 @@ returns-in_default-clause-cause g c =
     let i = c.loop-cell.invariant in
     let told = g.D.Disk.contents c.args.disk.now in
     let cell = c.loop-cell.cell in
-    first_damaged told cell c.loop-cell.states c.cell_at-bytes.result.now (omega arith) i.count c.requires.store i.read i.one i.unread
+    first_damaged told c.args.cells cell c.loop-cell.states c.cell_at-bytes.result.now (omega arith) c.requires.store i.read i.one i.unread
     (of_cell told cell c.read_block.new.block c.cell_at-bytes.result.now (rw i.calm.same at c.in-Ok.ensures.bytes) c.cell_at-bytes.ensures) c.in_default.ensures
+
+pub returns-clause-one : goal.returns-clause-one
+returns-clause-one g c = one_all c.loop-cell.cell c.loop-cell.states c.loop-cell.invariant.one c.loop-cell.invariant.unread
+
+pub returns-clause-numbered : goal.returns-clause-numbered
+returns-clause-numbered g c = numbered_all c.loop-cell.cell c.loop-cell.states c.loop-cell.invariant.numbered c.loop-cell.invariant.unread
+
+pub returns-clause-named : goal.returns-clause-named
+returns-clause-named g c = named_all c.loop-cell.cell c.loop-cell.states c.loop-cell.invariant.named c.loop-cell.invariant.unread
 
 pub loop-cell-init : goal.loop-cell-init
 loop-cell-init g c =
     let d = g.D.Disk in
     let disk = c.args.disk.now in
     record {
-      size = c.requires.size;
+      size = refl;
       room = c.requires.room;
       block = λ differs. absurd (differs refl);
       count = ap length c.requires.states;

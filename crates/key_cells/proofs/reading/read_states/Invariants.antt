@@ -1,5 +1,4 @@
-use Rattle.key_cells.proofs.Common.{Calm, count_by, GivesBlock, HasOneEach, IfSome, is_open, IsNamed, IsNumbered, length, ReadsBelow, take, ◌≡◌, ◌≢◌, cell_count, store_size}
-use Rattle.key_cells.proofs.Finding.{IsUnread}
+use Rattle.key_cells.proofs.Common.{AreFreeFrom, Calm, count_by, GivesBlock, HasOneEach, IfSome, is_open, IsNamed, IsNumbered, length, ReadsBelow, take, ◌≡◌, ◌≢◌, cell_count}
 use Rattle.std.specs.Prelude.{◌%◌}
 use Rattle.key_cells.proofs.reading.read_states.Given as goal
 
@@ -7,12 +6,12 @@ abbrev pub invariant-loop-cell : goal.invariant-loop-cell
 invariant-loop-cell g l =
     let d = g.D.Disk in
     record {
-      size : d.size l.disk ≡ store_size;
+      size : d.size l.disk ≡ d.size l.fn.disk;
       room : length l.block ≡ 69632;
       block : l.cell % 64 ≢ 0 → GivesBlock (d.contents l.fn.disk) l.cell l.block;
       count : length l.states ≡ cell_count;
       read : IfSome (d.contents l.fn.disk) (λ image. ReadsBelow l.cell l.states image);
-      unread : IsUnread l.cell l.states;
+      unread : AreFreeFrom l.cell l.states;
       one : HasOneEach l.cell l.states;
       numbered : IsNumbered l.cell l.states;
       named : IsNamed l.cell l.states;

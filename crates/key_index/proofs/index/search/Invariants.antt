@@ -1,5 +1,4 @@
-use Rattle.key_index.proofs.Common.{◌-◌}
-use Rattle.key_index.proofs.Searching.{IsSearched}
+use Rattle.key_index.proofs.{Common.◌-◌, Searching.IsSearched}
 use Rattle.key_index.proofs.index.search.Given as goal
 
 abbrev pub invariant-loop-low : goal.invariant-loop-low

@@ -1,6 +1,4 @@
-use Rattle.key_slots.proofs.Common.{arith, slot_at}
-use Rattle.key_slots.proofs.Agreeing.{readers_out}
-use Rattle.key_slots.proofs.Counting.{few_of_one}
+use Rattle.key_slots.proofs.{Common.arith, Common.slot_at, Agreeing.readers_out, Counting.few_of_one}
 use Rattle.key_slots.proofs.laws.few_read_a_slot.Goals as goal
 
 pub returns : goal.returns

@@ -1,7 +1,6 @@
 use Rattle.std.proofs.Common.{arith}
-use Rattle.library_tests.proofs.Keys.{none_yet, new_after}
+use Rattle.library_tests.proofs.{Keys.none_yet, Keys.new_after, elements.held_by.Goals.then-is_ok, elements.held_by.Goals.else-is_ok}
 use Rattle.library_tests.proofs.elements.held_by.Goals as goal
-use Rattle.library_tests.proofs.elements.held_by.Goals.{then-is_ok, else-is_ok}
 
 pub loop-handle-init : goal.loop-handle-init
 loop-handle-init c = record { new = λ q le. none_yet c.args.driver.now.keys q c.requires; held = omega arith }

@@ -1,5 +1,4 @@
-use Rattle.line_generator.proofs.Common.{All-push, generator_line, IsOfSession, length-map-range_with_len, All, [], ap, arith, length, rules, subst, sym, ℕ, ◌++◌, ◌∙◌, ◌∷◌, ◌≡◌}
-use Rattle.line_generator.proofs.Ranges.{mapped_more}
+use Rattle.line_generator.proofs.{Common.All-push, Common.generator_line, Common.IsOfSession, Common.length-map-range_with_len, Common.All, Common.[], Common.ap, Common.arith, Common.length, Common.rules, Common.subst, Common.sym, Common.ℕ, Common.◌++◌, Common.◌∙◌, Common.◌∷◌, Common.◌≡◌, Ranges.mapped_more}
 use Rattle.line_generator.proofs.generator.generated_lines.Goals as goal
 
 of_session : (n : ℕ) → IsOfSession (generator_line n)

@@ -1,5 +1,4 @@
-use Rattle.locked_store.proofs.Common.{IsClosed, [], replicate, subst, sym, world_of}
-use Rattle.locked_store.proofs.Closing.{closed}
+use Rattle.locked_store.proofs.{Common.IsClosed, Common.[], Common.replicate, Common.subst, Common.sym, Common.world_of, Closing.closed}
 use Rattle.locked_store.proofs.opening.end.Goals as goal
 
 pub returns : goal.returns

@@ -1,5 +1,4 @@
-use Rattle.std.proofs.Common.{Bool, ap, ap₂, arith, bytes_eq, eqb, get_or, length, sym, take, ◌&&◌, ◌∙◌, ◌≡◌}
-use Rattle.std.proofs.lemmas.List.{length-take, take_more}
+use Rattle.std.proofs.{Common.Bool, Common.ap, Common.ap₂, Common.arith, Common.bytes_eq, Common.eqb, Common.get_or, Common.length, Common.sym, Common.take, Common.◌&&◌, Common.◌∙◌, Common.◌≡◌, lemmas.List.length-take, lemmas.List.take_more}
 use Rattle.multipart.proofs.ByteLists.{bytes_eq_push}
 use Rattle.multipart.proofs.comparing.is_equal.Goals as goal
 

@@ -1,5 +1,4 @@
-use Rattle.std.proofs.Common.{ap, arith, drop, length-drop, ℕ, ◌+◌, ◌∙◌}
-use Rattle.std.proofs.lemmas.List.{take_all, drop-drop}
+use Rattle.std.proofs.{Common.ap, Common.arith, Common.drop, Common.length-drop, Common.ℕ, Common.◌+◌, Common.◌∙◌, lemmas.List.take_all, lemmas.List.drop-drop}
 use Rattle.outside_io.proofs.Pieces.{written}
 use Rattle.outside_io.proofs.whole.write_all.Goals as goal
 

@@ -1,5 +1,4 @@
-use Rattle.policy_rules.proofs.Common.{Attributes, IsWithin, NoCopy, NoExport, subst, sym}
-use Rattle.policy_rules.proofs.Rules.{narrowed-within}
+use Rattle.policy_rules.proofs.{Common.Attributes, Common.IsWithin, Common.NoCopy, Common.NoExport, Common.subst, Common.sym, Rules.narrowed-within}
 use Rattle.policy_rules.proofs.narrowing.narrow.Goals as goal
 
 pub returns-in-NoExport-clause-within : goal.returns-in-NoExport-clause-within

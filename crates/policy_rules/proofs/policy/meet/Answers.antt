@@ -1,5 +1,4 @@
-use Rattle.policy_rules.proofs.Common.{IfSome, IsWithin, MayUseBoth, subst, sym}
-use Rattle.policy_rules.proofs.Copies.{meet-may_use_both, meet-within}
+use Rattle.policy_rules.proofs.{Common.IfSome, Common.IsWithin, Common.MayUseBoth, Common.subst, Common.sym, Copies.meet-may_use_both, Copies.meet-within}
 use Rattle.policy_rules.proofs.policy.meet.Goals as goal
 
 pub returns : goal.returns

@@ -1,8 +1,7 @@
 use Rattle.std.proofs.Common.{Option, Some, ap, subst, sym, ◌∙◌, ◌≡◌, ◌⊎◌}
-use Rattle.psa_command.proofs.Common.{Command, EndsBy, Exit, IsBeforeOpening, IsDonePlainly, IsReadable, Memory, ReadFault, Script}
+use Rattle.psa_command.proofs.{Common.Command, Common.EndsBy, Common.Exit, Common.IsBeforeOpening, Common.IsDonePlainly, Common.IsReadable, Common.Memory, Common.ReadFault, Common.Script, Causes.HasCause, Causes.bad_cell, Causes.cause, Causes.complete, Causes.no_store, Causes.refused, Causes.unwritten}
 use Rattle.admission.specs.Apply.{picked}
 use Rattle.command_words.specs.declared.command.Command.TheVariants as commands
-use Rattle.psa_command.proofs.Causes.{HasCause, bad_cell, cause, complete, no_store, refused, unwritten}
 use Rattle.psa_command.proofs.command.run_command.Goals as goal
 
 same_command : {a b : Command} {read inner : Option Command} (c : Command) → inner ≡ read → inner ≡ Some c → c ≡ a → read ≡ Some b → a ≡ b

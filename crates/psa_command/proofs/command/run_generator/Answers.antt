@@ -1,8 +1,7 @@
 use Rattle.std.proofs.Common.{refl, subst, sym, ◌∙◌}
-use Rattle.psa_command.proofs.Common.{AreAllKept, MatchResult-at_err, MatchResult-at_ok}
+use Rattle.psa_command.proofs.{Common.AreAllKept, Common.MatchResult-at_err, Common.MatchResult-at_ok, Causes.answered_ends, Causes.of_answered, Causes.of_unanswered}
 use Rattle.command_words.specs.declared.command.Command.TheVariants as commands
 use Rattle.script_lang.specs.declared.replies.ReplyForm.TheVariants.{Unranked}
-use Rattle.psa_command.proofs.Causes.{answered_ends, of_answered, of_unanswered}
 use Rattle.psa_command.proofs.command.run_generator.Goals as goal
 
 pub returns-in-Ok-replies-clause-ends : goal.returns-in-Ok-replies-clause-ends

@@ -1,7 +1,6 @@
 use Rattle.std.proofs.Common.{IfSome, Ok, ap, flat_map, refl, subst, sym, ◌∙◌, ◌≡◌}
-use Rattle.psa_command.proofs.Common.{IsWritten, MatchResult-at_ok, Replies, script_of}
+use Rattle.psa_command.proofs.{Common.IsWritten, Common.MatchResult-at_ok, Common.Replies, Common.script_of, Causes.answered_ends, Causes.of_answered}
 use Rattle.command_words.specs.declared.command.Command.TheVariants as commands
-use Rattle.psa_command.proofs.Causes.{answered_ends, of_answered}
 use Rattle.psa_command.proofs.command.run_script.Goals as goal
 
 pub returns-in-Ok-replies-clause-ends : goal.returns-in-Ok-replies-clause-ends

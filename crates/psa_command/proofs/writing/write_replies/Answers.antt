@@ -1,6 +1,5 @@
 use Rattle.std.proofs.Common.{ap, arith, drop, flat_map, length, subst, sym, take, ◌++◌, ◌+◌, ◌∙◌, ◌≡◌}
-use Rattle.psa_command.proofs.Common.{Appends, Replies}
-use Rattle.psa_command.proofs.Written.{appends_both, flat_more, flat_split, part_of}
+use Rattle.psa_command.proofs.{Common.Appends, Common.Replies, Written.appends_both, Written.flat_more, Written.flat_split, Written.part_of}
 use Rattle.psa_command.proofs.writing.write_replies.Goals as goal
 
 pub loop-own-preserved : goal.loop-own-preserved

@@ -1,5 +1,4 @@
-use Rattle.random_streams.proofs.Common.{RandomStream, ap, length, random_bytes, stream_of, sym, words_used, ◌+◌, ◌∙◌}
-use Rattle.random_streams.proofs.Drawing.{filled, still_sound}
+use Rattle.random_streams.proofs.{Common.RandomStream, Common.ap, Common.length, Common.random_bytes, Common.stream_of, Common.sym, Common.words_used, Common.◌+◌, Common.◌∙◌, Drawing.filled, Drawing.still_sound}
 use Rattle.random_streams.proofs.Stream.fill.Goals as goal
 
 pub invariant_of-self : goal.invariant_of-self

@@ -1,5 +1,4 @@
-use Rattle.random_streams.proofs.Common.{RandomStream, ap, arith, stream_of, sym, words_offered, ◌∙◌, ◌≤◌}
-use Rattle.random_streams.proofs.Drawing.{set_back, still_sound}
+use Rattle.random_streams.proofs.{Common.RandomStream, Common.ap, Common.arith, Common.stream_of, Common.sym, Common.words_offered, Common.◌∙◌, Common.◌≤◌, Drawing.set_back, Drawing.still_sound}
 use Rattle.random_streams.proofs.Stream.go_back.Goals as goal
 
 pub invariant_of-self : goal.invariant_of-self

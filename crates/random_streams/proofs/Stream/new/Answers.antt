@@ -1,5 +1,4 @@
-use Rattle.random_streams.proofs.Common.{ap, stream_of, ◌∙◌}
-use Rattle.random_streams.proofs.FirstWord.{made, first_sound, first_stream}
+use Rattle.random_streams.proofs.{Common.ap, Common.stream_of, Common.◌∙◌, FirstWord.made, FirstWord.first_sound, FirstWord.first_stream}
 use Rattle.random_streams.proofs.Stream.new.Goals as goal
 
 pub invariant_of-result : goal.invariant_of-result

@@ -1,7 +1,6 @@
 use Rattle.std.proofs.Common.{ap, ◌∙◌}
-use Rattle.script_lang.proofs.Common.{row_named, shape}
+use Rattle.script_lang.proofs.{Common.row_named, Common.shape, Table.found_shape}
 use Rattle.std.specs.Option.{option_map}
-use Rattle.script_lang.proofs.Table.{found_shape}
 use Rattle.script_lang.proofs.commands.row_named.Goals as goal
 
 pub returns : goal.returns

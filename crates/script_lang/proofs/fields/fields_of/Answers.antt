@@ -1,7 +1,5 @@
-use Rattle.std.proofs.Common.{Ok, ap, subst, sym, ◌∙◌}
-use Rattle.script_lang.proofs.Common.{Fails, Fields, read_field, read_fields, shape}
-use Rattle.std.proofs.lemmas.Result.{err_from_is_err_and}
-use Rattle.script_lang.proofs.Rows.{fields_end, fields_turn, fields_fail}
+use Rattle.std.proofs.{Common.Ok, Common.ap, Common.subst, Common.sym, Common.◌∙◌, lemmas.Result.err_from_is_err_and}
+use Rattle.script_lang.proofs.{Common.Fails, Common.Fields, Common.read_field, Common.read_fields, Common.shape, Rows.fields_end, Rows.fields_turn, Rows.fields_fail}
 use Rattle.script_lang.proofs.fields.fields_of.Goals as goal
 
 pub returns-in_err-field : goal.returns-in_err-field

@@ -1,6 +1,4 @@
-use Rattle.script_lang.proofs.Again.{script_again, fault_again}
-use Rattle.script_lang.proofs.Ends.{failure_is, read_is}
-use Rattle.script_lang.proofs.Meant.{script_ends}
+use Rattle.script_lang.proofs.{Again.script_again, Again.fault_again, Ends.failure_is, Ends.read_is, Meant.script_ends}
 use Rattle.script_lang.proofs.grammar.script_grammar.Goals as goal
 
 pub returns : goal.returns

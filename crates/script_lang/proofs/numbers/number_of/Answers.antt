@@ -1,6 +1,5 @@
 use Rattle.std.proofs.Common.{Some, ap, arith, drop, refl, sym, ◌+◌, ◌∙◌}
-use Rattle.script_lang.proofs.Common.{number_from}
-use Rattle.script_lang.proofs.Digits.{number_is, found, not_found, no_number, next_digit, at_end}
+use Rattle.script_lang.proofs.{Common.number_from, Digits.number_is, Digits.found, Digits.not_found, Digits.no_number, Digits.next_digit, Digits.at_end}
 use Rattle.script_lang.proofs.numbers.number_of.Goals as goal
 
 pub returns-in-None : goal.returns-in-None

@@ -1,6 +1,5 @@
 use Rattle.std.proofs.Common.{ap, sym, ◌∙◌, ◌∷◌}
-use Rattle.script_lang.proofs.Common.{text_lines}
-use Rattle.script_lang.proofs.TextLines.{line_cut}
+use Rattle.script_lang.proofs.{Common.text_lines, TextLines.line_cut}
 use Rattle.script_lang.proofs.pieces.next_line.Goals as goal
 
 pub returns-in-Some : goal.returns-in-Some

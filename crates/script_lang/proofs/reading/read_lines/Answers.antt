@@ -1,6 +1,5 @@
 use Rattle.std.proofs.Common.{ap, arith, length, subst, sym, ◌∙◌}
-use Rattle.script_lang.proofs.Common.{ScriptFails, fault_at}
-use Rattle.script_lang.proofs.Whole.{lines_turn, lines_end, lines_fail}
+use Rattle.script_lang.proofs.{Common.ScriptFails, Common.fault_at, Whole.lines_turn, Whole.lines_end, Whole.lines_fail}
 use Rattle.script_lang.proofs.reading.read_lines.Goals as goal
 
 pub loop-line-preserved : goal.loop-line-preserved

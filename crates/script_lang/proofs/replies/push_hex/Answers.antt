@@ -1,6 +1,5 @@
 use Rattle.std.proofs.Common.{List, [], ap, append_assoc, ap₂, arith, length, refl, sym, ℕ, ◌++◌, ◌∙◌, ◌∷◌, ◌≡◌}
-use Rattle.script_lang.proofs.Common.{append-nil, encode_lower, encode_with, take-append-drop}
-use Rattle.script_lang.proofs.HexText.{encode_joined}
+use Rattle.script_lang.proofs.{Common.append-nil, Common.encode_lower, Common.encode_with, Common.take-append-drop, HexText.encode_joined}
 use Rattle.script_lang.proofs.replies.push_hex.Goals as goal
 
 none_is : (bytes : List ℕ) → length bytes ≡ 0 → bytes ≡ []

@@ -1,6 +1,5 @@
 use Rattle.std.proofs.Common.{ap, arith, replicate, subst, sym, ◌∙◌, ◌≡◌}
-use Rattle.secure_element_calls.proofs.Common.{agrees_by, HoldsHandle, length-take, unless-err}
-use Rattle.secure_element_calls.proofs.Answering.{differed, failed, gave, refused}
+use Rattle.secure_element_calls.proofs.{Common.agrees_by, Common.HoldsHandle, Common.length-take, Common.unless-err, Answering.differed, Answering.failed, Answering.gave, Answering.refused}
 use Rattle.secure_element_calls.proofs.computing.compute.Goals as goal
 
 pub returns-in-Err-clause-computed : goal.returns-in-Err-clause-computed

@@ -1,7 +1,5 @@
-use Rattle.std.proofs.Common.{List, ap, arith, length, refl, sym, take, ℕ, ◌*◌, ◌++◌, ◌+◌, ◌-◌, ◌∙◌}
-use Rattle.secure_element_calls.proofs.Common.{blocks, counter_next, ecb_encrypt, key_stream, length-number_block, length-take, number_block, take_all}
-use Rattle.std.proofs.lemmas.Slice.{take-put_mid}
-use Rattle.secure_element_calls.proofs.CounterBlocks.{next_counter}
+use Rattle.std.proofs.{Common.List, Common.ap, Common.arith, Common.length, Common.refl, Common.sym, Common.take, Common.ℕ, Common.◌*◌, Common.◌++◌, Common.◌+◌, Common.◌-◌, Common.◌∙◌, lemmas.Slice.take-put_mid}
+use Rattle.secure_element_calls.proofs.{Common.blocks, Common.counter_next, Common.ecb_encrypt, Common.key_stream, Common.length-number_block, Common.length-take, Common.number_block, Common.take_all, CounterBlocks.next_counter}
 use Rattle.secure_element_calls.proofs.counters.fill_counters.Goals as goal
 
 pub turns-init : goal.turns-init

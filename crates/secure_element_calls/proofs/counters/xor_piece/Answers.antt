@@ -1,6 +1,5 @@
 use Rattle.std.proofs.Common.{ap, arith, ◌∙◌}
-use Rattle.secure_element_calls.proofs.Common.{aes_encrypt, ctr_xor, key_stream, number_block, xor_bytes}
-use Rattle.secure_element_calls.proofs.Holding.{holds_as, on_ok_as}
+use Rattle.secure_element_calls.proofs.{Common.aes_encrypt, Common.ctr_xor, Common.key_stream, Common.number_block, Common.xor_bytes, Holding.holds_as, Holding.on_ok_as}
 use Rattle.secure_element_calls.proofs.counters.xor_piece.Goals as goal
 
 pub returns-clause-text : goal.returns-clause-text

@@ -1,8 +1,5 @@
 use Rattle.std.proofs.Common.{arith, drop, rules, subst, take, ◌*◌, ◌-◌, ◌∙◌, ◌≡◌}
-use Rattle.secure_element_calls.proofs.Common.{HoldsHandle, aes_encrypt, block_number, ctr_xor, number_block}
-use Rattle.secure_element_calls.proofs.Holding.{holds_as, holds_both}
-use Rattle.secure_element_calls.proofs.Counting.{rose_again}
-use Rattle.secure_element_calls.proofs.Streams.{all_done, next_piece, none_done}
+use Rattle.secure_element_calls.proofs.{Common.HoldsHandle, Common.aes_encrypt, Common.block_number, Common.ctr_xor, Common.number_block, Holding.holds_as, Holding.holds_both, Counting.rose_again, Streams.all_done, Streams.next_piece, Streams.none_done}
 use Rattle.secure_element_calls.proofs.counters.xor_text.Goals as goal
 
 pub pieces-init : goal.pieces-init

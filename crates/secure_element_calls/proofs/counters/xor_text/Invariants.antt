@@ -1,6 +1,5 @@
 use Rattle.std.proofs.Common.{◌%◌, ◌*◌, ◌+◌, ◌<◌, ◌^◌, ◌≡◌, ◌≤◌}
-use Rattle.secure_element_calls.proofs.Common.{HoldsHandle, Rose, block_number}
-use Rattle.secure_element_calls.proofs.Streams.{done_to}
+use Rattle.secure_element_calls.proofs.{Common.HoldsHandle, Common.Rose, Common.block_number, Streams.done_to}
 use Rattle.secure_element_calls.proofs.counters.xor_text.Given as goal
 
 abbrev pub invariant-pieces : goal.invariant-pieces

@@ -1,6 +1,5 @@
 use Rattle.std.proofs.Common.{ap}
-use Rattle.secure_element_calls.proofs.Common.{algorithm_asked}
-use Rattle.secure_element_calls.proofs.Holding.{holds_as, is_aes}
+use Rattle.secure_element_calls.proofs.{Common.algorithm_asked, Holding.holds_as, Holding.is_aes}
 use Rattle.secure_element_calls.proofs.filling.fill.Goals as goal
 
 pub encrypt-written-requires-clause-aes : goal.encrypt-written-requires-clause-aes

@@ -1,5 +1,4 @@
-use Rattle.session_host.proofs.Common.{IfOk, IsNoted, reply_of, subst, sym}
-use Rattle.session_host.proofs.Noted.{noted}
+use Rattle.session_host.proofs.{Common.IfOk, Common.IsNoted, Common.reply_of, Common.subst, Common.sym, Noted.noted}
 use Rattle.session_host.proofs.answers.note.Goals as goal
 
 pub returns-in-Ok-clause-noted : goal.returns-in-Ok-clause-noted

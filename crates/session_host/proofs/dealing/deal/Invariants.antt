@@ -1,5 +1,4 @@
-use Rattle.session_host.proofs.Common.{length, take, vec_capacity, world, ◌-◌, ◌≡◌, ◌≤◌}
-use Rattle.session_host.proofs.Dealt.{IsDealing}
+use Rattle.session_host.proofs.{Common.length, Common.take, Common.vec_capacity, Common.world, Common.◌-◌, Common.◌≡◌, Common.◌≤◌, Dealt.IsDealing}
 use Rattle.session_host.proofs.dealing.deal.Given as goal
 
 abbrev pub invariant-loop : goal.invariant-loop

@@ -1,5 +1,4 @@
-use Rattle.session_host.proofs.Common.{[], ap, ap₂, arith, get_or, get_or_default, length, mod_below, refl, set, subst, suc, sym, ℕ, ◌%◌, ◌++◌, ◌-◌, ◌<◌, ◌∙◌, ◌∷◌, ◌≡◌, ◌≤◌}
-use Rattle.session_host.proofs.Dealt.{IsTaking, is_there, none_left, one_taken}
+use Rattle.session_host.proofs.{Common.[], Common.ap, Common.ap₂, Common.arith, Common.get_or, Common.get_or_default, Common.length, Common.mod_below, Common.refl, Common.set, Common.subst, Common.suc, Common.sym, Common.ℕ, Common.◌%◌, Common.◌++◌, Common.◌-◌, Common.◌<◌, Common.◌∙◌, Common.◌∷◌, Common.◌≡◌, Common.◌≤◌, Dealt.IsTaking, Dealt.is_there, Dealt.none_left, Dealt.one_taken}
 use Rattle.session_host.proofs.dealing.gather.Goals as goal
 
 pub returns-clause-emptied : goal.returns-clause-emptied

@@ -1,5 +1,4 @@
-use Rattle.session_host.proofs.Common.{length, vec_capacity, ◌-◌, ◌≡◌, ◌≤◌}
-use Rattle.session_host.proofs.Dealt.{IsTaking}
+use Rattle.session_host.proofs.{Common.length, Common.vec_capacity, Common.◌-◌, Common.◌≡◌, Common.◌≤◌, Dealt.IsTaking}
 use Rattle.session_host.proofs.dealing.gather.Given as goal
 
 abbrev pub invariant-loop-number : goal.invariant-loop-number

@@ -1,5 +1,4 @@
-use Rattle.session_host.proofs.Common.{world_of}
-use Rattle.session_host.proofs.Replayed.{replayed}
+use Rattle.session_host.proofs.{Common.world_of, Replayed.replayed}
 use Rattle.session_host.proofs.laws.sessions_are_replayed.Goals as goal
 
 pub returns : goal.returns

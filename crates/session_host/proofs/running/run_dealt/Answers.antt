@@ -1,5 +1,4 @@
-use Rattle.session_host.proofs.Common.{world, ◌∙◌}
-use Rattle.session_host.proofs.Gathered.{have_kept, have_made, have_seen, own_after}
+use Rattle.session_host.proofs.{Common.world, Common.◌∙◌, Gathered.have_kept, Gathered.have_made, Gathered.have_seen, Gathered.own_after}
 use Rattle.session_host.proofs.running.run_dealt.Goals as goal
 
 pub run_workers-requires-clause-begun : goal.run_workers-requires-clause-begun

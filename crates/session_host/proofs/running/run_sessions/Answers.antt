@@ -1,5 +1,4 @@
-use Rattle.session_host.proofs.Common.{All, List, [], ap, arith, length, subst, sym, take, take-append_seam, world, ℕ, ◌++◌, ◌∙◌, ◌≡◌}
-use Rattle.session_host.proofs.Gathered.{have_made_none}
+use Rattle.session_host.proofs.{Common.All, Common.List, Common.[], Common.ap, Common.arith, Common.length, Common.subst, Common.sym, Common.take, Common.take-append_seam, Common.world, Common.ℕ, Common.◌++◌, Common.◌∙◌, Common.◌≡◌, Gathered.have_made_none}
 use Rattle.session_host.proofs.running.run_sessions.Goals as goal
 
 -- what a loan of a whole list leaves in it

@@ -1,10 +1,9 @@
-use Rattle.session_host.proofs.Common.{HasWorked, arg_send, arg_sync, crosses, get_or, param_send, param_sync, sendable, subst, world}
+use Rattle.session_host.proofs.{Common.HasWorked, Common.arg_send, Common.arg_sync, Common.crosses, Common.get_or, Common.param_send, Common.param_sync, Common.sendable, Common.subst, Common.world, Sent.closure_sync, Sent.service_sync, Sent.worker_send}
 use denote.Exit.{no}
 use denote.Param.{param}
 use Rattle.std.proofs.Crossing as heap
 use Rattle.caller_service.specs.contracts.service.Service as Service
 use Rattle.script_lang.specs.contracts.script.ScriptLine as ScriptLine
-use Rattle.session_host.proofs.Sent.{closure_sync, service_sync, worker_send}
 use Rattle.session_host.proofs.running.run_workers.Goals as goal
 
 pub for_each_mut-requires-send-T : goal.for_each_mut-requires-send-T

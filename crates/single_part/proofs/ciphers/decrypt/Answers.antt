@@ -1,7 +1,5 @@
 use Rattle.std.proofs.Common.{ap, drop, length, refl, subst, sym, take, ◌-◌, ◌∙◌}
-use Rattle.single_part.proofs.Common.{AnswersOrSpoils, deciphered, decrypt_rows, err_from_is_err_and, first_row, iv_length, model_mode, plain_or_zeros, unless-err}
-use Rattle.single_part.proofs.Ciphering.{refused_or_spoilt, decrypted_buffer, decrypted_is}
-use Rattle.single_part.proofs.Replies.{refused_buffer}
+use Rattle.single_part.proofs.{Common.AnswersOrSpoils, Common.deciphered, Common.decrypt_rows, Common.err_from_is_err_and, Common.first_row, Common.iv_length, Common.model_mode, Common.plain_or_zeros, Common.unless-err, Ciphering.refused_or_spoilt, Ciphering.decrypted_buffer, Ciphering.decrypted_is, Replies.refused_buffer}
 use Rattle.single_part.proofs.ciphers.decrypt.Goals as goal
 
 pub returns-in_err-needed : goal.returns-in_err-needed

@@ -1,7 +1,6 @@
 use Rattle.std.proofs.Common.{None, Ok, ap, arith, length, refl, subst, sym, take, ◌++◌, ◌∙◌, ◌≡◌, ◌≤◌}
 use Rattle.single_part.proofs.Common.{AnswersLength, buffer_after, Computed, computed_unless, drawn_from, enciphered, encrypt_rows, encrypted, err_from_is_err_and, first_row, given, iv_length, length-take, model_mode, next_bytes, unless-err, unless-ok}
-use Rattle.single_part.proofs.Ciphering.{vector_fits, sealed_is, sealed_buffer, part_length}
-use Rattle.single_part.proofs.Replies.{refused_answer, kept_buffer, kept_stream}
+use Rattle.single_part.proofs.{Ciphering.vector_fits, Ciphering.sealed_is, Ciphering.sealed_buffer, Ciphering.part_length, Replies.refused_answer, Replies.kept_buffer, Replies.kept_stream}
 use Rattle.single_part.proofs.ciphers.encrypt.Goals as goal
 
 -- no row refuses the call

@@ -1,13 +1,11 @@
 use Rattle.std.proofs.Common.{IfOk, List, None, Option, Result, Some, ap, length, subst, sym, take, ℕ, ◌∙◌, ◌≡◌}
-use Rattle.single_part.proofs.Common.{AnswersLength, Status, buffer_after, class_rows, err_from_is_err_and, first_row, first_row-back, first_row-front, given, reply_unless, result_err, room_rows}
+use Rattle.single_part.proofs.{Common.AnswersLength, Common.Status, Common.buffer_after, Common.class_rows, Common.err_from_is_err_and, Common.first_row, Common.first_row-back, Common.first_row-front, Common.given, Common.reply_unless, Common.result_err, Common.room_rows, Replies.given_length, Replies.refused_length, Replies.refused_buffer}
 use Rattle.hash_ops.proofs.Digests.{length-hash_of}
 use Rattle.hash_ops.specs.Hashes as hashes
 use Rattle.hash_ops.specs.declared.Hash.{Hash}
 use Rattle.key_policy.specs.Names.{NamesHash}
 use Rattle.alg_encoding.specs.declared.table.Class.TheVariants as class
-use Rattle.store_model.specs.Algorithms.{hash_length_of, hash_of}
-use Rattle.store_model.specs.Hashes.{compute_rows}
-use Rattle.single_part.proofs.Replies.{given_length, refused_length, refused_buffer}
+use Rattle.store_model.specs.{Algorithms.hash_length_of, Algorithms.hash_of, Hashes.compute_rows}
 use Rattle.single_part.proofs.hashes.hash_compute.Goals as goal
 
 -- a number that names no hash is refused

@@ -1,6 +1,5 @@
 use Rattle.std.proofs.Common.{List, None, Some, ap₂, arith, length, subst, take, ℕ, ◌++◌, ◌∙◌, ◌≡◌}
-use Rattle.single_part.proofs.Common.{pkcs7_unpadded, take-append-drop}
-use Rattle.single_part.proofs.Paddings.{none_in_text, some_in_text}
+use Rattle.single_part.proofs.{Common.pkcs7_unpadded, Common.take-append-drop, Paddings.none_in_text, Paddings.some_in_text}
 use Rattle.single_part.proofs.modes.unpadded_length.Goals as goal
 
 pub returns-in-Some : goal.returns-in-Some

@@ -1,5 +1,4 @@
-use Rattle.turn_history.proofs.Common.{[], ap, arith, boxed_base, boxed_stands, ◌+◌, ◌-◌, ◌∙◌, ◌≡◌}
-use Rattle.turn_history.proofs.Splitting.{makes_one}
+use Rattle.turn_history.proofs.{Common.[], Common.ap, Common.arith, Common.boxed_base, Common.boxed_stands, Common.◌+◌, Common.◌-◌, Common.◌∙◌, Common.◌≡◌, Splitting.makes_one}
 use Rattle.turn_history.proofs.making.deal.Goals as goal
 
 pub split_seat-requires : goal.split_seat-requires

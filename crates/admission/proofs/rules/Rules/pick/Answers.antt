@@ -1,6 +1,5 @@
-use Rattle.admission.proofs.Common.{ap, is_one_of, map, rules, ◌∙◌}
+use Rattle.admission.proofs.{Common.ap, Common.is_one_of, Common.map, Common.rules, Common.◌∙◌, Lists.map-filter}
 use Rattle.std.proofs.lemmas.Fn.{filter_same}
-use Rattle.admission.proofs.Lists.{map-filter}
 use Rattle.admission.proofs.rules.Rules.pick.Goals as goal
 
 pub returns : goal.returns

@@ -1,5 +1,4 @@
-use Rattle.std.proofs.Common.{ap, arith, drop, false, length, ℕ, ◌++◌, ◌+◌, ◌∙◌, ◌≡◌}
-use Rattle.std.proofs.lemmas.List.{length-append, length-drop}
+use Rattle.std.proofs.{Common.ap, Common.arith, Common.drop, Common.false, Common.length, Common.ℕ, Common.◌++◌, Common.◌+◌, Common.◌∙◌, Common.◌≡◌, lemmas.List.length-append, lemmas.List.length-drop}
 use Rattle.psa_status.specs.Rows.{first_row}
 use Rattle.store_model.specs.Prelude.{aead_update_rows, is_past_payload}
 use Rattle.aead_states.specs.Counted.{with_begun_text}

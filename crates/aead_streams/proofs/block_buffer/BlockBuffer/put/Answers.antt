@@ -1,5 +1,4 @@
-use Rattle.aead_streams.proofs.Common.{arith, length-take, take}
-use Rattle.aead_streams.proofs.Filling.{put_in}
+use Rattle.aead_streams.proofs.{Common.arith, Common.length-take, Common.take, Filling.put_in}
 use Rattle.aead_streams.proofs.block_buffer.BlockBuffer.put.Goals as goal
 
 pub invariant_of-self : goal.invariant_of-self

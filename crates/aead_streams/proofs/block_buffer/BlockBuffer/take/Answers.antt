@@ -1,5 +1,4 @@
-use Rattle.aead_streams.proofs.Common.{ap, block_number, ◌∙◌}
-use Rattle.aead_streams.proofs.Filling.{number_of_used}
+use Rattle.aead_streams.proofs.{Common.ap, Common.block_number, Common.◌∙◌, Filling.number_of_used}
 use Rattle.aead_streams.proofs.block_buffer.BlockBuffer.take.Goals as goal
 
 pub returns-clause-number : goal.returns-clause-number

@@ -1,5 +1,4 @@
-use Rattle.aead_streams.proofs.Common.{aes_encrypt}
-use Rattle.aead_streams.proofs.Absorbing.{front_absorbed}
+use Rattle.aead_streams.proofs.{Common.aes_encrypt, Absorbing.front_absorbed}
 use Rattle.aead_streams.proofs.ccm_chain.Chain.absorb_front.Goals as goal
 
 pub returns : goal.returns

@@ -1,5 +1,4 @@
-use Rattle.aead_streams.proofs.Common.{aes_encrypt, ◌++◌, ◌∙◌}
-use Rattle.aead_streams.proofs.Absorbing.{put_waits}
+use Rattle.aead_streams.proofs.{Common.aes_encrypt, Common.◌++◌, Common.◌∙◌, Absorbing.put_waits}
 use Rattle.aead_streams.proofs.ccm_chain.Chain.absorb_run.Goals as goal
 
 pub returns-clause-chain : goal.returns-clause-chain

@@ -1,5 +1,4 @@
-use Rattle.aead_streams.proofs.Common.{aes_encrypt}
-use Rattle.aead_streams.proofs.Absorbing.{full_absorbed, part_absorbed}
+use Rattle.aead_streams.proofs.{Common.aes_encrypt, Absorbing.full_absorbed, Absorbing.part_absorbed}
 use Rattle.aead_streams.proofs.ccm_chain.Chain.absorb_waiting.Goals as goal
 
 pub returns-clause-full : goal.returns-clause-full

@@ -1,5 +1,4 @@
-use Rattle.aead_streams.proofs.Common.{List, aes_encrypt, ap, chained_from, control_block, data_front, filled_blocks, ℕ, ◌++◌, ◌∙◌}
-use Rattle.aead_streams.proofs.Absorbing.{first_chained}
+use Rattle.aead_streams.proofs.{Common.List, Common.aes_encrypt, Common.ap, Common.chained_from, Common.control_block, Common.data_front, Common.filled_blocks, Common.ℕ, Common.◌++◌, Common.◌∙◌, Absorbing.first_chained}
 use Rattle.aead_streams.proofs.ccm_chain.Chain.begin.Goals as goal
 
 pub returns : goal.returns

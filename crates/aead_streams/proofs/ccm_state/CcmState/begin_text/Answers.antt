@@ -1,5 +1,4 @@
-use Rattle.aead_streams.proofs.Common.{[], aes_encrypt, arith, chain_after, chain_start, length}
-use Rattle.aead_streams.proofs.CcmTags.{data_ended}
+use Rattle.aead_streams.proofs.{Common.[], Common.aes_encrypt, Common.arith, Common.chain_after, Common.chain_start, Common.length, CcmTags.data_ended}
 use Rattle.aead_streams.proofs.ccm_state.CcmState.begin_text.Goals as goal
 
 pub returns : goal.returns

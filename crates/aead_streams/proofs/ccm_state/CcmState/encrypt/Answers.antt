@@ -1,5 +1,4 @@
-use Rattle.aead_streams.proofs.Common.{IsAt, List, Whole, aes_encrypt, ap, append_assoc, arith, chain_start, chained_from, encoded_data, filled_blocks, length, length-append, subst, sym, ℕ, ◌++◌, ◌∙◌}
-use Rattle.aead_streams.proofs.CcmPayloads.{counted_on, piece_counted}
+use Rattle.aead_streams.proofs.{Common.IsAt, Common.List, Common.Whole, Common.aes_encrypt, Common.ap, Common.append_assoc, Common.arith, Common.chain_start, Common.chained_from, Common.encoded_data, Common.filled_blocks, Common.length, Common.length-append, Common.subst, Common.sym, Common.ℕ, Common.◌++◌, Common.◌∙◌, CcmPayloads.counted_on, CcmPayloads.piece_counted}
 use Rattle.aead_streams.proofs.ccm_state.CcmState.encrypt.Goals as goal
 
 pub returns-clause-holds : goal.returns-clause-holds

@@ -1,5 +1,4 @@
-use Rattle.aead_streams.proofs.Common.{[], aes_encrypt, ap, chain_after, number_block, ◌∙◌}
-use Rattle.aead_streams.proofs.CcmTags.{tag_of_chain}
+use Rattle.aead_streams.proofs.{Common.[], Common.aes_encrypt, Common.ap, Common.chain_after, Common.number_block, Common.◌∙◌, CcmTags.tag_of_chain}
 use Rattle.aead_streams.proofs.ccm_state.CcmState.tag.Goals as goal
 
 pub returns : goal.returns

@@ -1,5 +1,4 @@
-use Rattle.aead_streams.proofs.Common.{length, refl}
-use Rattle.aead_streams.proofs.GcmTexts.{further}
+use Rattle.aead_streams.proofs.{Common.length, Common.refl, GcmTexts.further}
 use Rattle.aead_streams.proofs.gcm_state.GcmState.decrypt.Goals as goal
 
 pub returns-clause-text : goal.returns-clause-text

@@ -1,5 +1,4 @@
-use Rattle.aead_streams.proofs.Common.{HasTaken, IsAt, List, Low32, aes_encrypt, arith, gcm_text, ghash_from, hash_subkey, increased, initial_counter_block, length, length-append, numbers_of, subst, sym, ℕ, ◌++◌, ◌+◌, ◌≡◌}
-use Rattle.aead_streams.proofs.GcmTexts.{further, length-gcm_text}
+use Rattle.aead_streams.proofs.{Common.HasTaken, Common.IsAt, Common.List, Common.Low32, Common.aes_encrypt, Common.arith, Common.gcm_text, Common.ghash_from, Common.hash_subkey, Common.increased, Common.initial_counter_block, Common.length, Common.length-append, Common.numbers_of, Common.subst, Common.sym, Common.ℕ, Common.◌++◌, Common.◌+◌, Common.◌≡◌, GcmTexts.further, GcmTexts.length-gcm_text}
 use Rattle.aead_streams.proofs.gcm_state.GcmState.encrypt.Goals as goal
 
 pub returns-clause-text : goal.returns-clause-text

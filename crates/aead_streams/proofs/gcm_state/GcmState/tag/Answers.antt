@@ -1,5 +1,4 @@
-use Rattle.aead_streams.proofs.Common.{ap₂, length_block, number_block, ◌∙◌}
-use Rattle.aead_streams.proofs.GcmTexts.{tag_made}
+use Rattle.aead_streams.proofs.{Common.ap₂, Common.length_block, Common.number_block, Common.◌∙◌, GcmTexts.tag_made}
 use Rattle.aead_streams.proofs.gcm_state.GcmState.tag.Goals as goal
 
 pub returns : goal.returns

@@ -1,5 +1,4 @@
-use Rattle.aead_streams.proofs.Common.{arith, refl}
-use Rattle.aead_streams.proofs.StreamPlaces.{started}
+use Rattle.aead_streams.proofs.{Common.arith, Common.refl, StreamPlaces.started}
 use Rattle.aead_streams.proofs.key_stream.KeyStream.new.Goals as goal
 
 pub returns : goal.returns

@@ -1,5 +1,4 @@
-use Rattle.aead_streams.proofs.Common.{aes_encrypt, number_block, refl, ◌∙◌}
-use Rattle.aead_streams.proofs.StreamPlaces.{refilled}
+use Rattle.aead_streams.proofs.{Common.aes_encrypt, Common.number_block, Common.refl, Common.◌∙◌, StreamPlaces.refilled}
 use Rattle.aead_streams.proofs.key_stream.KeyStream.refill.Goals as goal
 
 pub returns-clause-at : goal.returns-clause-at

@@ -1,6 +1,5 @@
-use Rattle.aead_streams.proofs.Common.{IsAt, List, [], aes_encrypt, ap, append-nil, arith, drop, drop_all, length, length-drop, rules, subst, take, take_all, text_xor, ℕ, ◌++◌, ◌+◌, ◌-◌, ◌∙◌, ◌≡◌}
+use Rattle.aead_streams.proofs.{Common.IsAt, Common.List, Common.[], Common.aes_encrypt, Common.ap, Common.append-nil, Common.arith, Common.drop, Common.drop_all, Common.length, Common.length-drop, Common.rules, Common.subst, Common.take, Common.take_all, Common.text_xor, Common.ℕ, Common.◌++◌, Common.◌+◌, Common.◌-◌, Common.◌∙◌, Common.◌≡◌, StreamPlaces.run_done}
 use borrow.Rule.Slice.PartMut.{put_mid}
-use Rattle.aead_streams.proofs.StreamPlaces.{run_done}
 use Rattle.aead_streams.proofs.key_stream.KeyStream.xor.Goals as goal
 
 pub runs-init : goal.runs-init

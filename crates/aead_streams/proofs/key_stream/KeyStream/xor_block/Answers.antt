@@ -1,5 +1,4 @@
-use Rattle.aead_streams.proofs.Common.{aes_encrypt, ap₂, block_of_xor, length-aes_encrypt, xor_bytes, ◌∙◌}
-use Rattle.aead_streams.proofs.StreamPlaces.{block_is, block_on}
+use Rattle.aead_streams.proofs.{Common.aes_encrypt, Common.ap₂, Common.block_of_xor, Common.length-aes_encrypt, Common.xor_bytes, Common.◌∙◌, StreamPlaces.block_is, StreamPlaces.block_on}
 use Rattle.aead_streams.proofs.key_stream.KeyStream.xor_block.Goals as goal
 
 pub returns-clause-text : goal.returns-clause-text

@@ -1,5 +1,4 @@
-use Rattle.aead_streams.proofs.Common.{List, aes_encrypt, ap, arith, drop, length-aes_encrypt, length-take, take, ℕ, ◌++◌, ◌∙◌}
-use Rattle.aead_streams.proofs.StreamPlaces.{piece_is}
+use Rattle.aead_streams.proofs.{Common.List, Common.aes_encrypt, Common.ap, Common.arith, Common.drop, Common.length-aes_encrypt, Common.length-take, Common.take, Common.ℕ, Common.◌++◌, Common.◌∙◌, StreamPlaces.piece_is}
 use Rattle.aead_streams.proofs.key_stream.KeyStream.xor_part.Goals as goal
 
 pub returns-clause-text : goal.returns-clause-text

@@ -1,5 +1,4 @@
-use Rattle.aead_streams.proofs.Common.{false≢true, refl}
-use Rattle.aead_streams.proofs.TextHashing.{ended_whole, ended_filled}
+use Rattle.aead_streams.proofs.{Common.false≢true, Common.refl, TextHashing.ended_whole, TextHashing.ended_filled}
 use Rattle.aead_streams.proofs.text_hash.TextHash.fill_up.Goals as goal
 
 pub returns-then-not-is_empty : goal.returns-then-not-is_empty

@@ -1,5 +1,4 @@
-use Rattle.aead_streams.proofs.Common.{ap, ap₂, arith, bit_xor, block_product, ℕ, ◌∙◌, ◌≡◌}
-use Rattle.aead_streams.proofs.HashSteps.{value_of_none}
+use Rattle.aead_streams.proofs.{Common.ap, Common.ap₂, Common.arith, Common.bit_xor, Common.block_product, Common.ℕ, Common.◌∙◌, Common.◌≡◌, HashSteps.value_of_none}
 use Rattle.aead_streams.proofs.text_hash.TextHash.finish.Goals as goal
 
 pub returns : goal.returns

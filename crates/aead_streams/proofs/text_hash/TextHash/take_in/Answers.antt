@@ -1,5 +1,4 @@
-use Rattle.aead_streams.proofs.Common.{arith, false≢true, length, refl, take, ◌<◌, ◌≡◌}
-use Rattle.aead_streams.proofs.TextHashing.{put_more, put_full}
+use Rattle.aead_streams.proofs.{Common.arith, Common.false≢true, Common.length, Common.refl, Common.take, Common.◌<◌, Common.◌≡◌, TextHashing.put_more, TextHashing.put_full}
 use Rattle.aead_streams.proofs.text_hash.TextHash.take_in.Goals as goal
 
 pub returns-then-is_full-clause-taken : goal.returns-then-is_full-clause-taken

@@ -1,5 +1,4 @@
-use Rattle.aead_streams.proofs.Common.{ap, arith, drop, length, length-drop, refl, take, take_all, ℕ, ◌*◌, ◌+◌, ◌-◌, ◌/◌, ◌≡◌}
-use Rattle.aead_streams.proofs.TextHashing.{updated}
+use Rattle.aead_streams.proofs.{Common.ap, Common.arith, Common.drop, Common.length, Common.length-drop, Common.refl, Common.take, Common.take_all, Common.ℕ, Common.◌*◌, Common.◌+◌, Common.◌-◌, Common.◌/◌, Common.◌≡◌, TextHashing.updated}
 use Rattle.aead_streams.proofs.text_hash.TextHash.update.Goals as goal
 
 pub returns : goal.returns

@@ -1,6 +1,5 @@
-use Rattle.caller_service.proofs.Common.{IsClosed, IsRetired, WereRetired, account_of, ap, arith, get_or, map, reverse, subst, sym, world_of, ◌++◌, ◌∙◌}
+use Rattle.caller_service.proofs.{Common.IsClosed, Common.IsRetired, Common.WereRetired, Common.account_of, Common.ap, Common.arith, Common.get_or, Common.map, Common.reverse, Common.subst, Common.sym, Common.world_of, Common.◌++◌, Common.◌∙◌, Ended.closed_over}
 use Rattle.locked_store.specs.Shared.{lock_of, opened_of, world}
-use Rattle.caller_service.proofs.Ended.{closed_over}
 use Rattle.caller_service.proofs.service.Service.close.Goals as goal
 
 pub hand_in-requires-clause-retired : goal.hand_in-requires-clause-retired

@@ -1,5 +1,4 @@
-use Rattle.callers.proofs.Common.{ap, done, ends, model_request, refl, world}
-use Rattle.callers.proofs.{Handling.aborted, Handling.aborted_answered, Handling.goes_back, Handling.same_out, Handling.spent_back, Journeys.called}
+use Rattle.callers.proofs.{Common.ap, Common.done, Common.ends, Common.model_request, Common.refl, Common.world, Handling.aborted, Handling.aborted_answered, Handling.goes_back, Handling.same_out, Handling.spent_back, Journeys.called}
 use Rattle.callers.proofs.caller.Caller.abort.Goals as goal
 
 pub give_back-requires-clause-lent : goal.give_back-requires-clause-lent

@@ -1,5 +1,4 @@
-use Rattle.callers.proofs.Common.{ap, arith, length, model_request, option_map, subst, sym, world, ◌+◌, ◌-◌, ◌<◌, ◌∙◌}
-use Rattle.callers.proofs.{Asking.asked_with, Asking.asked_without, HandleLists.cell_at, HandleLists.named_alike, HandleLists.names_lease}
+use Rattle.callers.proofs.{Common.ap, Common.arith, Common.length, Common.model_request, Common.option_map, Common.subst, Common.sym, Common.world, Common.◌+◌, Common.◌-◌, Common.◌<◌, Common.◌∙◌, Asking.asked_with, Asking.asked_without, HandleLists.cell_at, HandleLists.named_alike, HandleLists.names_lease}
 use Rattle.callers.proofs.caller.Caller.ask.Goals as goal
 
 pub step-rank-requires-clause-out : goal.step-rank-requires-clause-out

@@ -1,5 +1,4 @@
-use Rattle.callers.proofs.Common.{AnswersReply, Done, Err, Inactive, Ok, ap, arith, buffer_after, model_request, plain_reply, refl, subst, sym, world, ◌+◌, ◌∙◌, ◌≡◌}
-use Rattle.callers.proofs.Beginning.{at_handle, bare_answered, bare_ready}
+use Rattle.callers.proofs.{Common.AnswersReply, Common.Done, Common.Err, Common.Inactive, Common.Ok, Common.ap, Common.arith, Common.buffer_after, Common.model_request, Common.plain_reply, Common.refl, Common.subst, Common.sym, Common.world, Common.◌+◌, Common.◌∙◌, Common.◌≡◌, Beginning.at_handle, Beginning.bare_answered, Beginning.bare_ready}
 use Rattle.callers.proofs.caller.Caller.begin.Goals as goal
 
 pub returns-in-Ok : goal.returns-in-Ok

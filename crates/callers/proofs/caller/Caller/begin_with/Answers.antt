@@ -1,6 +1,5 @@
 use Rattle.callers.proofs.Common.{All-pop, DecidesAfter, IfSome, Inactive, IsClear, IsLent, IsRanked, IsRefused, Plain, ap, arith, false≢true, is_some, lease_pair, mark_of, model_request, refl, subst, sym, use_refusal, used_for, world, ◌+◌, ◌∙◌, ◌∷◌, ◌≡◌}
-use Rattle.callers.proofs.{Beginning.at_handle, Beginning.lent_answered, Beginning.lent_ready, Beginning.reads_key, Beginning.refuses, Beginning.stayed_answered, Beginning.stayed_ready, Failing.refused_tells, Failing.use_plainly}
-use Rattle.callers.proofs.{Looking.has_room_for_lease, Looking.has_spare, Looking.popped, Looking.put_back, Storing.if_err, Storing.if_ok}
+use Rattle.callers.proofs.{Beginning.at_handle, Beginning.lent_answered, Beginning.lent_ready, Beginning.reads_key, Beginning.refuses, Beginning.stayed_answered, Beginning.stayed_ready, Failing.refused_tells, Failing.use_plainly, Looking.has_room_for_lease, Looking.has_spare, Looking.popped, Looking.put_back, Storing.if_err, Storing.if_ok}
 use Rattle.callers.proofs.caller.Caller.begin_with.Goals as goal
 
 pub unreachable-requires : goal.unreachable-requires

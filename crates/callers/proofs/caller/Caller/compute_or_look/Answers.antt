@@ -1,6 +1,5 @@
 use Rattle.callers.proofs.Common.{IsLooked, IsReplied, ap, bytes_of, computed_by, drawn_from, false≢true, is_some, length, may_change_keys, model_request, next_bytes, refl, subst, sym, world, ◌∙◌}
-use Rattle.callers.proofs.Computing.{asked_with, computed_answered, computed_ready, lent_answered, lent_ready, refused_answered, refused_ready}
-use Rattle.callers.proofs.{Looking.has_spare, Looking.popped, Looking.put_back, Supposed.decides_as, WithKeys.quiet_call}
+use Rattle.callers.proofs.{Computing.asked_with, Computing.computed_answered, Computing.computed_ready, Computing.lent_answered, Computing.lent_ready, Computing.refused_answered, Computing.refused_ready, Looking.has_spare, Looking.popped, Looking.put_back, Supposed.decides_as, WithKeys.quiet_call}
 use Rattle.callers.proofs.caller.Caller.compute_or_look.Goals as goal
 
 pub unreachable-requires : goal.unreachable-requires

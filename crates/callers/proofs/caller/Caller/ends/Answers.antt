@@ -1,7 +1,6 @@
-use Rattle.callers.proofs.Common.{ap, false, is_inactive, rules, sym, true, ◌∙◌, ◌≡◌}
+use Rattle.callers.proofs.{Common.ap, Common.false, Common.is_inactive, Common.rules, Common.sym, Common.true, Common.◌∙◌, Common.◌≡◌, Beginning.at_handle}
 use Rattle.service_calls.specs.{declared.call.Call.TheVariants.OnHandle, declared.handle_calls.HandleCall.TheVariants.Abort}
 use Rattle.callers.specs.Budget.{is_counted}
-use Rattle.callers.proofs.Beginning.{at_handle}
 use Rattle.callers.proofs.caller.Caller.ends.Goals as goal
 
 pub returns-then-is_inactive-clause-none : goal.returns-then-is_inactive-clause-none

@@ -1,5 +1,4 @@
-use Rattle.callers.proofs.Common.{Err, Generate, InvalidArgument, None, Some, Status, ap, model_request, refl, sym, world, ◌∙◌, ◌≡◌}
-use Rattle.callers.proofs.{Generating.no_bytes_drawn, Generating.no_bytes_give, Storing.stored_answered, Storing.stored_ready, Storing.undecided}
+use Rattle.callers.proofs.{Common.Err, Common.Generate, Common.InvalidArgument, Common.None, Common.Some, Common.Status, Common.ap, Common.model_request, Common.refl, Common.sym, Common.world, Common.◌∙◌, Common.◌≡◌, Generating.no_bytes_drawn, Generating.no_bytes_give, Storing.stored_answered, Storing.stored_ready, Storing.undecided}
 use Rattle.callers.proofs.caller.Caller.generate.Goals as goal
 
 clash : {s : Status} → Some s ≡ None → ⊥

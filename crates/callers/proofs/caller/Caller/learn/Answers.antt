@@ -1,5 +1,4 @@
-use Rattle.callers.proofs.Common.{SameButPass, ap, joined, refl, world, ◌≡◌}
-use Rattle.callers.proofs.Learning.{learned, other_seen, own_seen}
+use Rattle.callers.proofs.{Common.SameButPass, Common.ap, Common.joined, Common.refl, Common.world, Common.◌≡◌, Learning.learned, Learning.other_seen, Learning.own_seen}
 use Rattle.callers.proofs.caller.Caller.learn.Goals as goal
 
 pub returns : goal.returns

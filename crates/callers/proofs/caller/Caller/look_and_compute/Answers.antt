@@ -1,6 +1,5 @@
-use Rattle.callers.proofs.Common.{DecidesAfter, IsClear, IsLent, IsRanked, IsRefused, Plain, ap, false≢true, is_some, lease_pair, length, mark_of, may_change_keys, model_request, refl, sym, use_refusal, world, ◌∙◌, ◌∷◌}
+use Rattle.callers.proofs.{Common.DecidesAfter, Common.IsClear, Common.IsLent, Common.IsRanked, Common.IsRefused, Common.Plain, Common.ap, Common.false≢true, Common.is_some, Common.lease_pair, Common.length, Common.mark_of, Common.may_change_keys, Common.model_request, Common.refl, Common.sym, Common.use_refusal, Common.world, Common.◌∙◌, Common.◌∷◌, Supposed.decides_as, WithKeys.quiet_call}
 use Rattle.callers.proofs.{Computing.asked_with, Computing.lent_answered, Computing.lent_ready, Computing.refused_answered, Computing.refused_ready, Looking.has_spare, Looking.popped, Looking.put_back, Storing.if_err, Storing.if_ok}
-use Rattle.callers.proofs.{Supposed.decides_as, WithKeys.quiet_call}
 use Rattle.callers.proofs.caller.Caller.look_and_compute.Goals as goal
 
 pub unreachable-requires : goal.unreachable-requires

@@ -1,5 +1,4 @@
-use Rattle.callers.proofs.Common.{List, RandomStream, ap, arith, refl, world, ℕ, ◌∙◌}
-use Rattle.callers.proofs.Starting.{starts_ready}
+use Rattle.callers.proofs.{Common.List, Common.RandomStream, Common.ap, Common.arith, Common.refl, Common.world, Common.ℕ, Common.◌∙◌, Starting.starts_ready}
 use Rattle.callers.proofs.caller.Caller.new.Goals as goal
 
 pub returns-clause-ready : goal.returns-clause-ready

@@ -1,6 +1,5 @@
 use Rattle.callers.proofs.Common.{AnswersReply, Done, Err, NoFault, Ok, RefusesKeyAt, Reply, ap, arith, buffer_after, drawn_from, draws_none, get_or, key_refused, model_request, operation_at, plain_reply, refl, subst, sym, world, ◌-◌, ◌∙◌}
-use Rattle.callers.proofs.{Beginning.at_handle, Failing.key_refused_plainly, Failing.told_plainly, Handling.asked_answered, Handling.asked_back, Handling.asked_ready, Handling.spent_back, Handling.still_stand}
-use Rattle.callers.proofs.Inputting.{refusal_draws_none, untimely, untimely_alike}
+use Rattle.callers.proofs.{Beginning.at_handle, Failing.key_refused_plainly, Failing.told_plainly, Handling.asked_answered, Handling.asked_back, Handling.asked_ready, Handling.spent_back, Handling.still_stand, Inputting.refusal_draws_none, Inputting.untimely, Inputting.untimely_alike}
 use Rattle.callers.proofs.caller.Caller.refuse_key.Goals as goal
 
 pub refuse_key-refused-requires : goal.refuse_key-refused-requires

@@ -1,6 +1,5 @@
 use Rattle.callers.proofs.Common.{AnswersReply, Err, NoFault, None, Reply, ap, arith, buffer_after, derivation_part, derived_key_refused, drawn_from, draws_none, get_or, model_request, operation_at, output_key_refusal, part_of, refl, subst, sym, world, ◌-◌, ◌∙◌, ◌≡◌}
-use Rattle.callers.proofs.{Beginning.at_handle, Failing.derived_plainly, Failing.told_plainly, Handling.asked_answered, Handling.asked_back, Handling.asked_ready, Handling.spent_back, Handling.still_stand}
-use Rattle.callers.proofs.Outputting.{output_draws_none, undue, undue_alike, undue_leaves}
+use Rattle.callers.proofs.{Beginning.at_handle, Failing.derived_plainly, Failing.told_plainly, Handling.asked_answered, Handling.asked_back, Handling.asked_ready, Handling.spent_back, Handling.still_stand, Outputting.output_draws_none, Outputting.undue, Outputting.undue_alike, Outputting.undue_leaves}
 use Rattle.callers.proofs.caller.Caller.refuse_output_key.Goals as goal
 
 pub refuse_output_key-status-requires-clause-some : goal.refuse_output_key-status-requires-clause-some

@@ -1,5 +1,4 @@
-use Rattle.callers.proofs.Common.{IsRetiring, arith, subst, world, ◌≡◌}
-use Rattle.callers.proofs.Retiring.{ends}
+use Rattle.callers.proofs.{Common.IsRetiring, Common.arith, Common.subst, Common.world, Common.◌≡◌, Retiring.ends}
 use Rattle.callers.proofs.caller.Caller.retire.Goals as goal
 
 pub returns-clause-retired : goal.returns-clause-retired

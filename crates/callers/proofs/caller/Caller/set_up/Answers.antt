@@ -1,6 +1,5 @@
-use Rattle.callers.proofs.Common.{ap, arith, is_inactive, model_request, operation_at, refl, sym, world, ◌∙◌, ◌≡◌}
+use Rattle.callers.proofs.{Common.ap, Common.arith, Common.is_inactive, Common.model_request, Common.operation_at, Common.refl, Common.sym, Common.world, Common.◌∙◌, Common.◌≡◌, Beginning.at_handle, Beginning.stayed_answered, Beginning.stayed_ready, Beginning.twice, Looking.same_spares, SettingUp.is_free}
 use Rattle.psa_status.specs.declared.Status.TheVariants as status
-use Rattle.callers.proofs.{Beginning.at_handle, Beginning.stayed_answered, Beginning.stayed_ready, Beginning.twice, Looking.same_spares, SettingUp.is_free}
 use Rattle.callers.proofs.caller.Caller.set_up.Goals as goal
 
 pub returns-then-not-is_inactive : goal.returns-then-not-is_inactive

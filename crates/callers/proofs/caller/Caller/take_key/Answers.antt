@@ -1,6 +1,5 @@
 use Rattle.callers.proofs.Common.{DecidesAfter, IsClear, IsLent, IsRanked, IsRefused, Plain, TakesKeyAt, ap, false≢true, is_some, lease_pair, mark_of, model_request, refl, sym, use_refusal, world, ◌∙◌, ◌∷◌}
-use Rattle.callers.proofs.{Beginning.at_handle, Inputting.failed_answered, Inputting.failed_ready, Inputting.given_answered, Inputting.given_ready, Inputting.reads_secret}
-use Rattle.callers.proofs.{Looking.has_room_for_lease, Looking.has_spare, Looking.popped, Looking.put_back, Storing.if_err, Storing.if_ok}
+use Rattle.callers.proofs.{Beginning.at_handle, Inputting.failed_answered, Inputting.failed_ready, Inputting.given_answered, Inputting.given_ready, Inputting.reads_secret, Looking.has_room_for_lease, Looking.has_spare, Looking.popped, Looking.put_back, Storing.if_err, Storing.if_ok}
 use Rattle.callers.proofs.caller.Caller.take_key.Goals as goal
 
 pub unreachable-requires : goal.unreachable-requires

@@ -1,5 +1,4 @@
-use Rattle.callers.proofs.Common.{world}
-use Rattle.callers.proofs.Retiring.{goes_back, quiet, retiring, same_number}
+use Rattle.callers.proofs.{Common.world, Retiring.goes_back, Retiring.quiet, Retiring.retiring, Retiring.same_number}
 use Rattle.callers.proofs.caller.Caller.wipe.Goals as goal
 
 pub give_back-requires-clause-lent : goal.give_back-requires-clause-lent

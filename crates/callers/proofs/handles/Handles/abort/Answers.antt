@@ -1,5 +1,4 @@
-use Rattle.callers.proofs.Common.{Inactive, IsChanged, ap, arith, get_or, set, subst, sym, ◌-◌, ◌<◌, ◌∙◌}
-use Rattle.callers.proofs.Changing.{wiped}
+use Rattle.callers.proofs.{Common.Inactive, Common.IsChanged, Common.ap, Common.arith, Common.get_or, Common.set, Common.subst, Common.sym, Common.◌-◌, Common.◌<◌, Common.◌∙◌, Changing.wiped}
 use Rattle.callers.proofs.handles.Handles.abort.Goals as goal
 
 pub returns-clause-changed : goal.returns-clause-changed

@@ -1,5 +1,4 @@
-use Rattle.callers.proofs.Common.{IsChanged, None, ap, arith, get_or, operation_at, refl, set, set_up_without_key, subst, sym, ◌-◌, ◌<◌, ◌∙◌}
-use Rattle.callers.proofs.Changing.{same_lease}
+use Rattle.callers.proofs.{Common.IsChanged, Common.None, Common.ap, Common.arith, Common.get_or, Common.operation_at, Common.refl, Common.set, Common.set_up_without_key, Common.subst, Common.sym, Common.◌-◌, Common.◌<◌, Common.◌∙◌, Changing.same_lease}
 use Rattle.callers.proofs.handles.Handles.begin.Goals as goal
 
 pub begin-requires : goal.begin-requires

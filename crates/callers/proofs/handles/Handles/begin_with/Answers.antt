@@ -1,5 +1,4 @@
-use Rattle.callers.proofs.Common.{HoldsLease, ap, arith, begun_with, bytes_of, get_or, operation_at, refl, set, subst, sym, ◌-◌, ◌<◌, ◌∙◌}
-use Rattle.callers.proofs.Changing.{kept}
+use Rattle.callers.proofs.{Common.HoldsLease, Common.ap, Common.arith, Common.begun_with, Common.bytes_of, Common.get_or, Common.operation_at, Common.refl, Common.set, Common.subst, Common.sym, Common.◌-◌, Common.◌<◌, Common.◌∙◌, Changing.kept}
 use Rattle.callers.proofs.handles.Handles.begin_with.Goals as goal
 
 pub begin_with-requires-clause-free : goal.begin_with-requires-clause-free

@@ -1,5 +1,4 @@
-use Rattle.callers.proofs.Common.{InError, IsChanged, None, ap, arith, get_or, operation_at, refl, set, subst, sym, ◌-◌, ◌<◌, ◌∙◌}
-use Rattle.callers.proofs.Changing.{same_lease}
+use Rattle.callers.proofs.{Common.InError, Common.IsChanged, Common.None, Common.ap, Common.arith, Common.get_or, Common.operation_at, Common.refl, Common.set, Common.subst, Common.sym, Common.◌-◌, Common.◌<◌, Common.◌∙◌, Changing.same_lease}
 use Rattle.callers.proofs.handles.Handles.fail_derivation.Goals as goal
 
 pub returns-clause-changed : goal.returns-clause-changed

@@ -1,5 +1,4 @@
-use Rattle.callers.proofs.Common.{InError, IsChanged, ap, arith, get_or, operation_at, set, subst, sym, ◌-◌, ◌<◌, ◌∙◌}
-use Rattle.callers.proofs.Changing.{stepped}
+use Rattle.callers.proofs.{Common.InError, Common.IsChanged, Common.ap, Common.arith, Common.get_or, Common.operation_at, Common.set, Common.subst, Common.sym, Common.◌-◌, Common.◌<◌, Common.◌∙◌, Changing.stepped}
 use Rattle.callers.proofs.handles.Handles.fail_output.Goals as goal
 
 pub returns : goal.returns

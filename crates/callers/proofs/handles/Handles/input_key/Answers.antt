@@ -1,5 +1,4 @@
-use Rattle.callers.proofs.Common.{HoldsLease, ap, arith, get_or, operation_at, refl, set, subst, sym, with_secret, ◌-◌, ◌<◌, ◌∙◌}
-use Rattle.callers.proofs.Changing.{kept}
+use Rattle.callers.proofs.{Common.HoldsLease, Common.ap, Common.arith, Common.get_or, Common.operation_at, Common.refl, Common.set, Common.subst, Common.sym, Common.with_secret, Common.◌-◌, Common.◌<◌, Common.◌∙◌, Changing.kept}
 use Rattle.callers.proofs.handles.Handles.input_key.Goals as goal
 
 pub input_key-requires-clause-takes : goal.input_key-requires-clause-takes

@@ -1,5 +1,4 @@
-use Rattle.callers.proofs.Common.{IsChanged, None, ap, arith, false, get_or, operation_at, refl, set, stated_bytes, subst, sym, true, without_bytes, ◌-◌, ◌<◌, ◌∙◌, ◌≡◌}
-use Rattle.callers.proofs.Changing.{same_lease}
+use Rattle.callers.proofs.{Common.IsChanged, Common.None, Common.ap, Common.arith, Common.false, Common.get_or, Common.operation_at, Common.refl, Common.set, Common.stated_bytes, Common.subst, Common.sym, Common.true, Common.without_bytes, Common.◌-◌, Common.◌<◌, Common.◌∙◌, Common.◌≡◌, Changing.same_lease}
 use Rattle.callers.proofs.handles.Handles.output_key.Goals as goal
 
 pub output_key-requires : goal.output_key-requires

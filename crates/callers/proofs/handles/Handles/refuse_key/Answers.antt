@@ -1,5 +1,4 @@
-use Rattle.callers.proofs.Common.{IsChanged, ap, arith, get_or, key_refused, operation_at, set, subst, sym, ◌-◌, ◌<◌, ◌∙◌}
-use Rattle.callers.proofs.Changing.{stepped}
+use Rattle.callers.proofs.{Common.IsChanged, Common.ap, Common.arith, Common.get_or, Common.key_refused, Common.operation_at, Common.set, Common.subst, Common.sym, Common.◌-◌, Common.◌<◌, Common.◌∙◌, Changing.stepped}
 use Rattle.callers.proofs.handles.Handles.refuse_key.Goals as goal
 
 pub refuse_key-result-requires : goal.refuse_key-result-requires

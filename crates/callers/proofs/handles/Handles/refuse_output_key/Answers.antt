@@ -1,5 +1,4 @@
-use Rattle.callers.proofs.Common.{IsChanged, ap, arith, derived_key_refused, get_or, operation_at, set, subst, sym, ◌-◌, ◌<◌, ◌∙◌}
-use Rattle.callers.proofs.Changing.{stepped}
+use Rattle.callers.proofs.{Common.IsChanged, Common.ap, Common.arith, Common.derived_key_refused, Common.get_or, Common.operation_at, Common.set, Common.subst, Common.sym, Common.◌-◌, Common.◌<◌, Common.◌∙◌, Changing.stepped}
 use Rattle.callers.proofs.handles.Handles.refuse_output_key.Goals as goal
 
 pub refuse_output_key-status-requires : goal.refuse_output_key-status-requires

@@ -1,5 +1,4 @@
-use Rattle.callers.proofs.Common.{IsChanged, ap, arith, get_or, length, model_step, next_bytes, operation_at, set, stepped_by, subst, sym, ◌-◌, ◌<◌, ◌∙◌}
-use Rattle.callers.proofs.Changing.{stepped}
+use Rattle.callers.proofs.{Common.IsChanged, Common.ap, Common.arith, Common.get_or, Common.length, Common.model_step, Common.next_bytes, Common.operation_at, Common.set, Common.stepped_by, Common.subst, Common.sym, Common.◌-◌, Common.◌<◌, Common.◌∙◌, Changing.stepped}
 use Rattle.callers.proofs.handles.Handles.step.Goals as goal
 
 pub returns : goal.returns

@@ -1,5 +1,4 @@
-use Rattle.cipher_states.proofs.Common.{refl}
-use Rattle.cipher_states.proofs.TextPlaces.{fresh_text}
+use Rattle.cipher_states.proofs.{Common.refl, TextPlaces.fresh_text}
 use Rattle.cipher_states.proofs.block_text.BlockText.new.Goals as goal
 
 pub returns-clause-runs : goal.returns-clause-runs

@@ -1,5 +1,4 @@
-use Rattle.cipher_states.proofs.Common.{List, Way, ap, ap₂, chains, next_chain, ℕ, ◌+◌, ◌∙◌}
-use Rattle.cipher_states.proofs.TextPlaces.{grown_text}
+use Rattle.cipher_states.proofs.{Common.List, Common.Way, Common.ap, Common.ap₂, Common.chains, Common.next_chain, Common.ℕ, Common.◌+◌, Common.◌∙◌, TextPlaces.grown_text}
 use Rattle.cipher_states.proofs.block_text.BlockText.update.Goals as goal
 
 pub returns-clause-runs : goal.returns-clause-runs

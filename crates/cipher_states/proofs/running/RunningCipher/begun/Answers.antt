@@ -1,5 +1,4 @@
-use Rattle.cipher_states.proofs.Common.{ap, cipher_work, mode_of, model_mode, refl, ◌∙◌}
-use Rattle.cipher_states.proofs.Beginnings.{begun_work, no_stream, no_chain}
+use Rattle.cipher_states.proofs.{Common.ap, Common.cipher_work, Common.mode_of, Common.model_mode, Common.refl, Common.◌∙◌, Beginnings.begun_work, Beginnings.no_stream, Beginnings.no_chain}
 use Rattle.cipher_states.proofs.running.RunningCipher.begun.Goals as goal
 
 pub returns-clause-holds : goal.returns-clause-holds

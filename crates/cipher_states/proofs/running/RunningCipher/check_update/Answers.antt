@@ -1,5 +1,4 @@
-use Rattle.cipher_states.proofs.Common.{ap, ap₂, arith, cipher_fresh, due_now, length, sym, takes_text, total_limit, true, unless, with_text, ◌+◌, ◌∙◌, ◌≡◌, ◌≤◌}
-use Rattle.cipher_states.proofs.RunningTexts.{length-fresh, update_rows, no_room, has_room}
+use Rattle.cipher_states.proofs.{Common.ap, Common.ap₂, Common.arith, Common.cipher_fresh, Common.due_now, Common.length, Common.sym, Common.takes_text, Common.total_limit, Common.true, Common.unless, Common.with_text, Common.◌+◌, Common.◌∙◌, Common.◌≡◌, Common.◌≤◌, RunningTexts.length-fresh, RunningTexts.update_rows, RunningTexts.no_room, RunningTexts.has_room}
 use Rattle.cipher_states.proofs.running.RunningCipher.check_update.Goals as goal
 
 pub returns-then-room-due-clause-value : goal.returns-then-room-due-clause-value

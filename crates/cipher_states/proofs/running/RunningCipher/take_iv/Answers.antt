@@ -1,5 +1,4 @@
-use Rattle.cipher_states.proofs.Common.{[], ap, is_some, iv_length, mode_of, model_mode, refl, with_iv, ◌==◌, ◌∙◌, ◌≡◌}
-use Rattle.cipher_states.proofs.Beginnings.{begun_work, not_ready}
+use Rattle.cipher_states.proofs.{Common.[], Common.ap, Common.is_some, Common.iv_length, Common.mode_of, Common.model_mode, Common.refl, Common.with_iv, Common.◌==◌, Common.◌∙◌, Common.◌≡◌, Beginnings.begun_work, Beginnings.not_ready}
 use Rattle.cipher_states.proofs.running.RunningCipher.take_iv.Goals as goal
 
 pub returns-clause-holds : goal.returns-clause-holds

@@ -1,6 +1,4 @@
-use Rattle.cmac_ops.proofs.Common.{List, aes_encrypt, ap, arith, length, length-take, replicate, sym, take, take_all, ℕ, ◌++◌, ◌-◌, ◌∙◌, ◌∷◌, ◌≡◌}
-use Rattle.cmac_ops.proofs.Chaining.{whole_last, filled_last}
-use Rattle.cmac_ops.proofs.Numbers.{length-block}
+use Rattle.cmac_ops.proofs.{Common.List, Common.aes_encrypt, Common.ap, Common.arith, Common.length, Common.length-take, Common.replicate, Common.sym, Common.take, Common.take_all, Common.ℕ, Common.◌++◌, Common.◌-◌, Common.◌∙◌, Common.◌∷◌, Common.◌≡◌, Chaining.whole_last, Chaining.filled_last, Numbers.length-block}
 use Rattle.cmac_ops.proofs.chain.Chain.last_block.Goals as goal
 
 pub returns-then-self-eq16 : goal.returns-then-self-eq16

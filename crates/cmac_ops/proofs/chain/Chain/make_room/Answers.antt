@@ -1,5 +1,4 @@
-use Rattle.cmac_ops.proofs.Common.{refl}
-use Rattle.cmac_ops.proofs.Chaining.{enciphered}
+use Rattle.cmac_ops.proofs.{Common.refl, Chaining.enciphered}
 use Rattle.cmac_ops.proofs.chain.Chain.make_room.Goals as goal
 
 pub returns-then-self-eq16-clause-chained : goal.returns-then-self-eq16-clause-chained

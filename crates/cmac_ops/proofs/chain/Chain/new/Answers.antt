@@ -1,5 +1,4 @@
-use Rattle.cmac_ops.proofs.Common.{refl}
-use Rattle.cmac_ops.proofs.Chaining.{started}
+use Rattle.cmac_ops.proofs.{Common.refl, Chaining.started}
 use Rattle.cmac_ops.proofs.chain.Chain.new.Goals as goal
 
 pub returns : goal.returns

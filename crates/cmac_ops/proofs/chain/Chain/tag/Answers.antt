@@ -1,5 +1,4 @@
-use Rattle.cmac_ops.proofs.Common.{number_block, ◌∙◌}
-use Rattle.cmac_ops.proofs.Chaining.{tag_of}
+use Rattle.cmac_ops.proofs.{Common.number_block, Common.◌∙◌, Chaining.tag_of}
 use Rattle.cmac_ops.proofs.chain.Chain.tag.Goals as goal
 
 pub returns : goal.returns

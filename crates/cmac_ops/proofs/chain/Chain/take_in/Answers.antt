@@ -1,5 +1,4 @@
-use Rattle.cmac_ops.proofs.Common.{arith, length, length-take, take, ℕ, ◌<◌}
-use Rattle.cmac_ops.proofs.Chaining.{put_some}
+use Rattle.cmac_ops.proofs.{Common.arith, Common.length, Common.length-take, Common.take, Common.ℕ, Common.◌<◌, Chaining.put_some}
 use Rattle.cmac_ops.proofs.chain.Chain.take_in.Goals as goal
 
 pub returns-clause-holds : goal.returns-clause-holds

@@ -1,7 +1,5 @@
-use Rattle.std.proofs.Common.{ap, arith, drop, length, take, ℕ, ◌≡◌, refl, rules, subst, sym, ◌+◌, ◌-◌, ◌∙◌}
-use Rattle.std.proofs.lemmas.Slice.{take-put_mid}
-use Rattle.derivation_states.proofs.Common.{HasSecret, next_derived, without}
-use Rattle.derivation_states.proofs.Running.{length-given, none_taken, some_more, without_none, without_twice}
+use Rattle.std.proofs.{Common.ap, Common.arith, Common.drop, Common.length, Common.take, Common.ℕ, Common.◌≡◌, Common.refl, Common.rules, Common.subst, Common.sym, Common.◌+◌, Common.◌-◌, Common.◌∙◌, lemmas.Slice.take-put_mid}
+use Rattle.derivation_states.proofs.{Common.HasSecret, Common.next_derived, Common.without, Running.length-given, Running.none_taken, Running.some_more, Running.without_none, Running.without_twice}
 use Rattle.derivation_states.proofs.output.OutputState.fill.Goals as goal
 
 pub pieces-init : goal.pieces-init

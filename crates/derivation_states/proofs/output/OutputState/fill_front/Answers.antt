@@ -1,7 +1,5 @@
 use Rattle.std.proofs.Common.{List, ap, arith, length, subst, sym, take, ℕ, ◌++◌, ◌+◌, ◌-◌, ◌∙◌, ◌≡◌}
-use Rattle.derivation_states.proofs.Common.{HasSecret, length-take, next_derived, take_at, without}
-use Rattle.derivation_states.proofs.Derived.{next_derived_add}
-use Rattle.derivation_states.proofs.Running.{length-given, ready_blocks, without_twice}
+use Rattle.derivation_states.proofs.{Common.HasSecret, Common.length-take, Common.next_derived, Common.take_at, Common.without, Derived.next_derived_add, Running.length-given, Running.ready_blocks, Running.without_twice}
 use Rattle.derivation_states.proofs.output.OutputState.fill_front.Goals as goal
 
 pub returns-clause-holds : goal.returns-clause-holds

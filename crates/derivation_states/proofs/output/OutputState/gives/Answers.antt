@@ -1,8 +1,6 @@
-use Rattle.std.proofs.Common.{Bool, List, [], ap, ap₂, arith, bytes_eq, drop, length, refl, subst, sym, take, ℕ, ◌&&◌, ◌+◌, ◌-◌, ◌∙◌, ◌≡◌}
-use Rattle.derivation_states.proofs.Common.{HasSecret, length-take, next_derived, without}
-use Rattle.std.proofs.Math.Seq.{take-add}
+use Rattle.std.proofs.{Common.Bool, Common.List, Common.[], Common.ap, Common.ap₂, Common.arith, Common.bytes_eq, Common.drop, Common.length, Common.refl, Common.subst, Common.sym, Common.take, Common.ℕ, Common.◌&&◌, Common.◌+◌, Common.◌-◌, Common.◌∙◌, Common.◌≡◌, Math.Seq.take-add}
+use Rattle.derivation_states.proofs.{Common.HasSecret, Common.length-take, Common.next_derived, Common.without, Running.length-given, Running.none_taken, Running.some_more, Running.without_none, Running.without_twice}
 use Rattle.multipart.proofs.ByteLists.{bytes_eq_append}
-use Rattle.derivation_states.proofs.Running.{length-given, none_taken, some_more, without_none, without_twice}
 use Rattle.derivation_states.proofs.output.OutputState.gives.Goals as goal
 
 pub pieces-init : goal.pieces-init

@@ -1,6 +1,5 @@
 use Rattle.std.proofs.Common.{arith, subst, ◌≡◌}
-use Rattle.derivation_states.proofs.Common.{HasSecret, without}
-use Rattle.derivation_states.proofs.Running.{without_twice}
+use Rattle.derivation_states.proofs.{Common.HasSecret, Common.without, Running.without_twice}
 use Rattle.derivation_states.proofs.output.OutputState.skip.Goals as goal
 
 pub pieces-preserved : goal.pieces-preserved

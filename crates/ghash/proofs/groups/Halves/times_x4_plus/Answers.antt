@@ -1,5 +1,4 @@
-use Rattle.ghash.proofs.Common.{ap, arith, bit_xor, joined_halves, times_x4, ◌∙◌}
-use Rattle.ghash.proofs.Halves.{halves_shifted}
+use Rattle.ghash.proofs.{Common.ap, Common.arith, Common.bit_xor, Common.joined_halves, Common.times_x4, Common.◌∙◌, Halves.halves_shifted}
 use Rattle.ghash.proofs.groups.Halves.times_x4_plus.Goals as goal
 
 pub returns : goal.returns

@@ -1,5 +1,4 @@
-use Rattle.hmac_ops.proofs.Common.{List, ap, ap₂, arith, compress, digest_bytes, ℕ, ◌∙◌}
-use Rattle.hmac_ops.proofs.TwoBlocks.{sha256-two_blocks}
+use Rattle.hmac_ops.proofs.{Common.List, Common.ap, Common.ap₂, Common.arith, Common.compress, Common.digest_bytes, Common.ℕ, Common.◌∙◌, TwoBlocks.sha256-two_blocks}
 use Rattle.hmac_ops.proofs.first_block.FirstBlock.digest_with.Goals as goal
 
 pub returns : goal.returns

@@ -1,6 +1,5 @@
-use Rattle.hmac_ops.proofs.Common.{List, [], ap, block_length, subst, take, ℕ, ◌∙◌, ◌≡◌}
+use Rattle.hmac_ops.proofs.{Common.List, Common.[], Common.ap, Common.block_length, Common.subst, Common.take, Common.ℕ, Common.◌∙◌, Common.◌≡◌, Padding.pad_of}
 use Rattle.hash_ops.specs.States.{HashHolds}
-use Rattle.hmac_ops.proofs.Padding.{pad_of}
 use Rattle.hmac_ops.proofs.key.HmacKey.new.Goals as goal
 
 pub returns : goal.returns

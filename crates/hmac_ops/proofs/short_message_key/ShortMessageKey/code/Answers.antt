@@ -1,6 +1,5 @@
-use Rattle.hmac_ops.proofs.Common.{List, ap, arith, hash_of, hmac, inner_pad, length, length-hash_of, outer_pad, ℕ, ◌++◌, ◌∙◌, ◌≤◌}
+use Rattle.hmac_ops.proofs.{Common.List, Common.ap, Common.arith, Common.hash_of, Common.hmac, Common.inner_pad, Common.length, Common.length-hash_of, Common.outer_pad, Common.ℕ, Common.◌++◌, Common.◌∙◌, Common.◌≤◌, Padding.length-pad}
 use Rattle.hash_ops.specs.declared.Hash.TheVariants.{Sha256}
-use Rattle.hmac_ops.proofs.Padding.{length-pad}
 use Rattle.hmac_ops.proofs.short_message_key.ShortMessageKey.code.Goals as goal
 
 pub returns : goal.returns

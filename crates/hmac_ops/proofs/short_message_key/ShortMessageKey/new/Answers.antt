@@ -1,5 +1,4 @@
-use Rattle.hmac_ops.proofs.Common.{ap, compress, initial_hash_256, ◌∙◌}
-use Rattle.hmac_ops.proofs.Padding.{pad_of}
+use Rattle.hmac_ops.proofs.{Common.ap, Common.compress, Common.initial_hash_256, Common.◌∙◌, Padding.pad_of}
 use Rattle.hmac_ops.proofs.short_message_key.ShortMessageKey.new.Goals as goal
 
 pub returns : goal.returns

@@ -1,17 +1,16 @@
-use Rattle.key_cells.proofs.Common.{IfErr-weaker, IfOk-weaker, sym}
-use Rattle.key_cells.proofs.{CellsRead.measured_as, Opened.refused_calm, Opened.opened_after, Opened.refused_after, Opened.told_nothing, Opened.no_store_of}
+use Rattle.key_cells.proofs.{Common.IfErr-weaker, Common.IfOk-weaker, Common.false, Common.sym, Common.true, Common.◌≡◌, CellsRead.measured_as, Opened.refused_calm, Opened.opened_after, Opened.refused_after, Opened.told_nothing, Opened.no_store_of}
 use Rattle.key_cells.proofs.cells.Cells.open_store.Goals as goal
 
 pub returns-in-Err-clause-refused : goal.returns-in-Err-clause-refused
 returns-in-Err-clause-refused g c =
     refused_calm g.D.Disk c.args.disk c.measure.new.disk _ c.measure.ensures.calm (told_nothing (g.D.Disk.contents c.args.disk)) (λ is. c.in-Err.ensures.cause.failed) (λ is. absurd is)
 
-pub returns-then-size-ne-STORE_SIZE-clause-refused : goal.returns-then-size-ne-STORE_SIZE-clause-refused
-returns-then-size-ne-STORE_SIZE-clause-refused g c =
+pub returns-then-not-has_size-clause-refused : goal.returns-then-not-has_size-clause-refused
+returns-then-not-has_size-clause-refused g c =
     let d = g.D.Disk in
     let now = c.measure.new.disk in
     refused_calm d c.args.disk now _ c.measure.ensures.calm
-    (no_store_of (d.contents c.args.disk) c.in-Ok.size c.if-size-eq0.false c.if-size-ne-STORE_SIZE.true (rw (← c.measure.ensures.calm.same) (measured_as (d.contents now) (d.size now) c.in-Ok.size (sym c.in-Ok.ensures.size) (g.met.D.Disk.measured now))))
+    (no_store_of (d.contents c.args.disk) c.in-Ok.size c.if-size-eq0.false (λ low high. let clash : false ≡ true = c.if-not-has_size.ensures.1 (low, high) in cc) (rw (← c.measure.ensures.calm.same) (measured_as (d.contents now) (d.size now) c.in-Ok.size (sym c.in-Ok.ensures.size) (g.met.D.Disk.measured now))))
     (λ is. absurd is) (λ is. c.in-Ok.ensures.durable)
 
 pub returns-clause-opened : goal.returns-clause-opened

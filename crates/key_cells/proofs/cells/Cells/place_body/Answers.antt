@@ -1,5 +1,4 @@
-use Rattle.key_cells.proofs.Common.{Created, CreationFailed, Doubtful, Nothing, Present, inl, inr}
-use Rattle.key_cells.proofs.{Entries.adds, Filling.but_first, Filling.filled, Moves.keeps_none, Moves.on_err}
+use Rattle.key_cells.proofs.{Common.Created, Common.CreationFailed, Common.Doubtful, Common.Nothing, Common.Present, Common.inl, Common.inr, Entries.adds, Filling.but_first, Filling.filled, Moves.keeps_none, Moves.on_err}
 use Rattle.key_cells.proofs.cells.Cells.place_body.Goals as goal
 
 pub returns-in_err-fill-clause-failed : goal.returns-in_err-fill-clause-failed

@@ -1,5 +1,4 @@
-use Rattle.key_cells.proofs.Common.{HoldsKey, IsKeyOf, List, ap, drop, has_id, subst, sym, take, ℕ, ◌-◌, ◌∙◌}
-use Rattle.key_cells.proofs.Loading.{read_gives, filled_with, of_no_key, of_other_key}
+use Rattle.key_cells.proofs.{Common.HoldsKey, Common.IsKeyOf, Common.List, Common.ap, Common.drop, Common.has_id, Common.subst, Common.sym, Common.take, Common.ℕ, Common.◌-◌, Common.◌∙◌, Loading.read_gives, Loading.filled_with, Loading.of_no_key, Loading.of_other_key}
 use Rattle.key_cells.proofs.cells.Cells.read_into.Goals as goal
 
 pub returns-in_default-clause-corrupt : goal.returns-in_default-clause-corrupt

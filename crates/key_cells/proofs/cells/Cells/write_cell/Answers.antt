@@ -1,5 +1,4 @@
-use Rattle.key_cells.proofs.Common.{arith, length, set}
-use Rattle.key_cells.proofs.{Images.settled_set, Steps.write_failed, Steps.write_done, Free.stays_free_set}
+use Rattle.key_cells.proofs.{Common.arith, Common.length, Common.set, Images.settled_set, Steps.write_failed, Steps.write_done, Free.stays_free_set}
 use Rattle.key_cells.proofs.cells.Cells.write_cell.Goals as goal
 
 pub returns-in-Ok-clause-done : goal.returns-in-Ok-clause-done

@@ -1,5 +1,4 @@
-use Rattle.key_cells.proofs.Common.{eq-eqb, eqb-true, sym, ◌∙◌}
-use Rattle.key_cells.proofs.Directories.{none_in_doubt, sure_has_none}
+use Rattle.key_cells.proofs.{Common.eq-eqb, Common.eqb-true, Common.sym, Common.◌∙◌, Directories.none_in_doubt, Directories.sure_has_none}
 use Rattle.key_cells.proofs.directory.Directory.is_sure.Goals as goal
 
 pub returns : goal.returns

@@ -1,5 +1,4 @@
-use Rattle.key_cells.proofs.Common.{HasNoKey, arith, get_or_read, Free, has_id, true, ℕ, ◌≡◌}
-use Rattle.key_cells.proofs.Directories.{kept_alone, kept_few, kept_missing, kept_room, kept_set, kept_some}
+use Rattle.key_cells.proofs.{Common.HasNoKey, Common.arith, Common.get_or_read, Common.Free, Common.has_id, Common.true, Common.ℕ, Common.◌≡◌, Directories.kept_alone, Directories.kept_few, Directories.kept_missing, Directories.kept_room, Directories.kept_set, Directories.kept_some}
 use Rattle.key_cells.proofs.directory.Directory.set.Goals as goal
 
 pub take_out-left-requires-clause-alone : goal.take_out-left-requires-clause-alone

@@ -1,5 +1,4 @@
-use Rattle.key_index.proofs.Common.{IsPermutation-insert, arith, entry_at}
-use Rattle.key_index.proofs.Entries.{found_is_there}
+use Rattle.key_index.proofs.{Common.IsPermutation-insert, Common.arith, Common.entry_at, Entries.found_is_there}
 use Rattle.key_index.proofs.index.KeyIndex.insert.Goals as goal
 
 pub returns-in-Err : goal.returns-in-Err

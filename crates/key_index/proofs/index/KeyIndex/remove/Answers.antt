@@ -1,5 +1,4 @@
-use Rattle.key_index.proofs.Common.{IsPermutation-remove, arith, eq-eqb, get_or_default, refl, sym, ◌∙◌}
-use Rattle.key_index.proofs.Entries.{sorted-remove, found_is_alone, gap_has_none}
+use Rattle.key_index.proofs.{Common.IsPermutation-remove, Common.arith, Common.eq-eqb, Common.get_or_default, Common.refl, Common.sym, Common.◌∙◌, Entries.sorted-remove, Entries.found_is_alone, Entries.gap_has_none}
 use Rattle.key_index.proofs.index.KeyIndex.remove.Goals as goal
 
 pub invariant_of-self : goal.invariant_of-self

@@ -1,8 +1,6 @@
-use Rattle.std.proofs.Common.{Err, ap, rules, sym, ◌∙◌, ◌≡◌}
-use Rattle.key_policy.proofs.Common.{unless}
-use Rattle.std.proofs.lemmas.Result.{err_from_is_err_and}
+use Rattle.std.proofs.{Common.Err, Common.ap, Common.rules, Common.sym, Common.◌∙◌, Common.◌≡◌, lemmas.Result.err_from_is_err_and}
+use Rattle.key_policy.proofs.{Common.unless, Devices.refused_alike}
 use Rattle.psa_status.proofs.Rows.{unless-err}
-use Rattle.key_policy.proofs.Devices.{refused_alike}
 use Rattle.key_policy.proofs.key_use.KeyUse.check.Goals as goal
 
 pub returns-in_err-check_use-in-Algorithm-clause-refusal : goal.returns-in_err-check_use-in-Algorithm-clause-refusal

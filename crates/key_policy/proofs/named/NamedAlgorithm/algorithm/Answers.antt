@@ -1,6 +1,5 @@
 use Rattle.std.proofs.Common.{ap, subst, sym, ◌∙◌}
-use Rattle.key_policy.proofs.Common.{algorithm_of}
-use Rattle.key_policy.proofs.Parsing.{Named, named}
+use Rattle.key_policy.proofs.{Common.algorithm_of, Parsing.Named, Parsing.named}
 use Rattle.key_policy.proofs.named.NamedAlgorithm.algorithm.Goals as goal
 
 pub returns : goal.returns

@@ -1,6 +1,4 @@
-use Rattle.key_slots.proofs.Common.{full_within, holds_key, inr, key_is_full, slot_at, true, ◌≡◌}
-use Rattle.key_slots.proofs.Agreeing.{destroys}
-use Rattle.key_slots.proofs.Wiping.{destroy_leaves, ends_one}
+use Rattle.key_slots.proofs.{Common.full_within, Common.holds_key, Common.inr, Common.key_is_full, Common.slot_at, Common.true, Common.◌≡◌, Agreeing.destroys, Wiping.destroy_leaves, Wiping.ends_one}
 use Rattle.key_slots.proofs.slots.KeySlots.destroy.Goals as goal
 
 pub returns-in-Some : goal.returns-in-Some

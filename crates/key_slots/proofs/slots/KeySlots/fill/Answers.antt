@@ -1,6 +1,4 @@
-use Rattle.key_slots.proofs.Common.{filling_within, inr, IsFillingOf, refl}
-use Rattle.key_slots.proofs.Agreeing.{fills, is_waiting}
-use Rattle.key_slots.proofs.Wiping.{ends_one}
+use Rattle.key_slots.proofs.{Common.filling_within, Common.inr, Common.IsFillingOf, Common.refl, Agreeing.fills, Agreeing.is_waiting, Wiping.ends_one}
 use Rattle.key_slots.proofs.slots.KeySlots.fill.Goals as goal
 
 pub returns-clause-takes : goal.returns-clause-takes

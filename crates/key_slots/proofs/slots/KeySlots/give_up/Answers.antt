@@ -1,6 +1,4 @@
-use Rattle.key_slots.proofs.Common.{empty_slot, filling_within, inr, IsFillingOf, refl, slot_at-set_same}
-use Rattle.key_slots.proofs.Agreeing.{gives_up, is_waiting}
-use Rattle.key_slots.proofs.Wiping.{ends_one}
+use Rattle.key_slots.proofs.{Common.empty_slot, Common.filling_within, Common.inr, Common.IsFillingOf, Common.refl, Common.slot_at-set_same, Agreeing.gives_up, Agreeing.is_waiting, Wiping.ends_one}
 use Rattle.key_slots.proofs.slots.KeySlots.give_up.Goals as goal
 
 pub returns : goal.returns

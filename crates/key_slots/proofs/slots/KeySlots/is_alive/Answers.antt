@@ -1,5 +1,4 @@
-use Rattle.key_slots.proofs.Common.{sym, ◌∙◌}
-use Rattle.key_slots.proofs.Agreeing.{lives}
+use Rattle.key_slots.proofs.{Common.sym, Common.◌∙◌, Agreeing.lives}
 use Rattle.key_slots.proofs.slots.KeySlots.is_alive.Goals as goal
 
 pub returns : goal.returns

@@ -1,7 +1,5 @@
-use Rattle.key_slots.proofs.Common.{ap, full_within, inl, refl}
+use Rattle.key_slots.proofs.{Common.ap, Common.full_within, Common.inl, Common.refl, Agreeing.registers, Wiping.ends_one}
 use Rattle.slot_table.specs.Lent.{Reading}
-use Rattle.key_slots.proofs.Agreeing.{registers}
-use Rattle.key_slots.proofs.Wiping.{ends_one}
 use Rattle.key_slots.proofs.slots.KeySlots.lend.Goals as goal
 
 pub returns-clause-gives : goal.returns-clause-gives

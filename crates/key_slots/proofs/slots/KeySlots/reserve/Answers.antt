@@ -1,6 +1,4 @@
-use Rattle.key_slots.proofs.Common.{filling_slot, inr, IsTakenOf, next_within, refl}
-use Rattle.key_slots.proofs.Agreeing.{reserves}
-use Rattle.key_slots.proofs.Wiping.{ends_one, next_taken}
+use Rattle.key_slots.proofs.{Common.filling_slot, Common.inr, Common.IsTakenOf, Common.next_within, Common.refl, Agreeing.reserves, Wiping.ends_one, Wiping.next_taken}
 use Rattle.key_slots.proofs.slots.KeySlots.reserve.Goals as goal
 
 pub returns-clause-gives : goal.returns-clause-gives

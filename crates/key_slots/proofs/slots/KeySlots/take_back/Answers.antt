@@ -1,6 +1,4 @@
-use Rattle.key_slots.proofs.Common.{read_within}
-use Rattle.key_slots.proofs.Agreeing.{is_read, leaves}
-use Rattle.key_slots.proofs.Wiping.{last_empties, leave_ends}
+use Rattle.key_slots.proofs.{Common.read_within, Agreeing.is_read, Agreeing.leaves, Wiping.last_empties, Wiping.leave_ends}
 use Rattle.key_slots.proofs.slots.KeySlots.take_back.Goals as goal
 
 pub returns : goal.returns

@@ -1,5 +1,4 @@
-use Rattle.locked_store.proofs.Common.{Plain, ap, model_request}
-use Rattle.locked_store.proofs.Turns.{counts, few, in_turn, steady, turned_after}
+use Rattle.locked_store.proofs.{Common.Plain, Common.ap, Common.model_request, Turns.counts, Turns.few, Turns.in_turn, Turns.steady, Turns.turned_after}
 use Rattle.locked_store.proofs.held.SharedStore.count.Goals as goal
 
 pub count-requires-clause-few : goal.count-requires-clause-few

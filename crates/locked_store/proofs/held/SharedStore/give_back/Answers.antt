@@ -1,5 +1,4 @@
-use Rattle.locked_store.proofs.Common.{ap, lease_pair}
-use Rattle.locked_store.proofs.Turns.{after_taking, in_turn, out, steady}
+use Rattle.locked_store.proofs.{Common.ap, Common.lease_pair, Turns.after_taking, Turns.in_turn, Turns.out, Turns.steady}
 use Rattle.locked_store.proofs.held.SharedStore.give_back.Goals as goal
 
 pub leave-spare-requires-clause-out : goal.leave-spare-requires-clause-out

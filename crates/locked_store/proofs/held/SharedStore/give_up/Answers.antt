@@ -1,5 +1,4 @@
-use Rattle.locked_store.proofs.Common.{ap, filling_pair}
-use Rattle.locked_store.proofs.Turns.{after_taking, in_turn, out, steady}
+use Rattle.locked_store.proofs.{Common.ap, Common.filling_pair, Turns.after_taking, Turns.in_turn, Turns.out, Turns.steady}
 use Rattle.locked_store.proofs.held.SharedStore.give_up.Goals as goal
 
 pub give_up-requires-clause-out : goal.give_up-requires-clause-out

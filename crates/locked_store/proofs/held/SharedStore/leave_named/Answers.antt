@@ -1,6 +1,5 @@
-use Rattle.locked_store.proofs.Common.{Some, after_change, entries_of, length, lock_of, mark_met, model_request, opened_of, refl, sym, turn_entry, world, ◌∙◌}
+use Rattle.locked_store.proofs.{Common.Some, Common.after_change, Common.entries_of, Common.length, Common.lock_of, Common.mark_met, Common.model_request, Common.opened_of, Common.refl, Common.sym, Common.turn_entry, Common.world, Common.◌∙◌, Renewing.at_after, Renewing.entered_after_turn, Renewing.legal_after}
 use Rattle.turn_history.proofs.Keeping.{some_same}
-use Rattle.locked_store.proofs.Renewing.{at_after, entered_after_turn, legal_after}
 use Rattle.locked_store.proofs.held.SharedStore.leave_named.Goals as goal
 
 pub returns : goal.returns

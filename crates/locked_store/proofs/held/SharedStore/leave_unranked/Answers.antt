@@ -1,5 +1,4 @@
-use Rattle.locked_store.proofs.Common.{None, after_change, entries_of, lock_of, opened_of, with_held_by, world}
-use Rattle.locked_store.proofs.Renewing.{at_after, later_after_turn, legal_after, with_nothing}
+use Rattle.locked_store.proofs.{Common.None, Common.after_change, Common.entries_of, Common.lock_of, Common.opened_of, Common.with_held_by, Common.world, Renewing.at_after, Renewing.later_after_turn, Renewing.legal_after, Renewing.with_nothing}
 use Rattle.locked_store.proofs.held.SharedStore.leave_unranked.Goals as goal
 
 pub leave-requires-clause-value : goal.leave-requires-clause-value

@@ -1,5 +1,4 @@
-use Rattle.locked_store.proofs.Common.{IfErr-weaker, IsEntered, entries_of, mark_of, model_request, subst}
-use Rattle.locked_store.proofs.{Renewing.model_as, Turns.ranked}
+use Rattle.locked_store.proofs.{Common.IfErr-weaker, Common.IsEntered, Common.entries_of, Common.mark_of, Common.model_request, Common.subst, Renewing.model_as, Turns.ranked}
 use Rattle.locked_store.proofs.held.SharedStore.look.Goals as goal
 
 pub look_in-requires-clause-begun : goal.look_in-requires-clause-begun

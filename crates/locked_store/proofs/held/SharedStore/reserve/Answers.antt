@@ -1,5 +1,4 @@
-use Rattle.locked_store.proofs.Common.{IsHolding, ap, filling_pair, subst, sym, ◌∷◌}
-use Rattle.locked_store.proofs.{Owning.one_filling_more, Turns.after_giving, Turns.in_turn, Turns.stands_some, Turns.steady}
+use Rattle.locked_store.proofs.{Common.IsHolding, Common.ap, Common.filling_pair, Common.subst, Common.sym, Common.◌∷◌, Owning.one_filling_more, Turns.after_giving, Turns.in_turn, Turns.stands_some, Turns.steady}
 use Rattle.locked_store.proofs.held.SharedStore.reserve.Goals as goal
 
 pub reserve-filling-requires-clause-stands : goal.reserve-filling-requires-clause-stands

@@ -1,5 +1,4 @@
-use Rattle.locked_store.proofs.Common.{HasNumber, Plain, ap, lease_pair, model_request, on_err_weaker, on_ok_weaker}
-use Rattle.locked_store.proofs.Turns.{counts, few, in_turn, out, ranked, steady, steps, turned_after}
+use Rattle.locked_store.proofs.{Common.HasNumber, Common.Plain, Common.ap, Common.lease_pair, Common.model_request, Common.on_err_weaker, Common.on_ok_weaker, Turns.counts, Turns.few, Turns.in_turn, Turns.out, Turns.ranked, Turns.steady, Turns.steps, Turns.turned_after}
 use Rattle.locked_store.proofs.held.SharedStore.step.Goals as goal
 
 pub step_operation-stepped-requires-clause-few : goal.step_operation-stepped-requires-clause-few

@@ -1,6 +1,4 @@
-use Rattle.operation_handles.proofs.Common.{set_up_without_key, ap, refl, sym, ◌∙◌}
-use Rattle.operation_handles.proofs.Fresh.{all_inactive}
-use Rattle.operation_handles.proofs.Leases.{begun}
+use Rattle.operation_handles.proofs.{Common.set_up_without_key, Common.ap, Common.refl, Common.sym, Common.◌∙◌, Fresh.all_inactive, Leases.begun}
 use Rattle.operation_handles.proofs.handle.OperationHandle.begin.Goals as goal
 
 pub returns-clause-state : goal.returns-clause-state

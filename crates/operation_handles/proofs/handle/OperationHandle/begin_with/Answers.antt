@@ -1,5 +1,4 @@
-use Rattle.operation_handles.proofs.Common.{AreStates, begun_with, Some, subst, sym}
-use Rattle.operation_handles.proofs.Leases.{begun_keyed}
+use Rattle.operation_handles.proofs.{Common.AreStates, Common.begun_with, Common.Some, Common.subst, Common.sym, Leases.begun_keyed}
 use Rattle.operation_handles.proofs.handle.OperationHandle.begin_with.Goals as goal
 
 pub returns-clause-state : goal.returns-clause-state

@@ -1,5 +1,4 @@
-use Rattle.operation_handles.proofs.Common.{IsDerivationOperation, key_given, on_active, subst}
-use Rattle.operation_handles.proofs.KeyInputs.{taken}
+use Rattle.operation_handles.proofs.{Common.IsDerivationOperation, Common.key_given, Common.on_active, Common.subst, KeyInputs.taken}
 use Rattle.operation_handles.proofs.handle.OperationHandle.input_key.Goals as goal
 
 pub returns-clause-state : goal.returns-clause-state

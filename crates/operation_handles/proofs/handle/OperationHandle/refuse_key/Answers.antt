@@ -1,6 +1,4 @@
-use Rattle.operation_handles.proofs.Common.{After, OperationHandle, DerivationWork, Derivations, IsDerivationOperation, IsOperation, key_refused, plain_reply, refusal, false, refl, subst, sym, true, ◌≡◌}
-use Rattle.operation_handles.proofs.Families.{keeps_put}
-use Rattle.operation_handles.proofs.KeyInputs.{refused_own, refusing, refusing_with}
+use Rattle.operation_handles.proofs.{Common.After, Common.OperationHandle, Common.DerivationWork, Common.Derivations, Common.IsDerivationOperation, Common.IsOperation, Common.key_refused, Common.plain_reply, Common.refusal, Common.false, Common.refl, Common.subst, Common.sym, Common.true, Common.◌≡◌, Families.keeps_put, KeyInputs.refused_own, KeyInputs.refusing, KeyInputs.refusing_with}
 use Rattle.operation_handles.proofs.Steps.{step_is, step_reply}
 use Rattle.operation_handles.proofs.handle.OperationHandle.refuse_key.Goals as goal
 

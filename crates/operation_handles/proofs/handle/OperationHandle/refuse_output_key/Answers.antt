@@ -1,7 +1,4 @@
-use Rattle.operation_handles.proofs.Common.{OperationHandle, Derivations, IsOperation, derived_key_bytes, derived_key_refused, refusal, false, refl, subst, sym, true, ◌≡◌}
-use Rattle.operation_handles.proofs.Families.{keeps_put}
-use Rattle.operation_handles.proofs.KeyOutputs.{deriving_with, refused_not_given}
-use Rattle.operation_handles.proofs.Steps.{step_is, step_reply}
+use Rattle.operation_handles.proofs.{Common.OperationHandle, Common.Derivations, Common.IsOperation, Common.derived_key_bytes, Common.derived_key_refused, Common.refusal, Common.false, Common.refl, Common.subst, Common.sym, Common.true, Common.◌≡◌, Families.keeps_put, KeyOutputs.deriving_with, KeyOutputs.refused_not_given, Steps.step_is, Steps.step_reply}
 use Rattle.operation_handles.proofs.handle.OperationHandle.refuse_output_key.Goals as goal
 
 pub returns-then-not-alive : goal.returns-then-not-alive

@@ -1,8 +1,6 @@
 use Rattle.operation_handles.proofs.Common.{AeadWork, Aeads, After, CipherWork, Ciphers, DerivationWork, Derivations, HashWork, Hashes, MacWork, Macs, aead_step, buffer_after, cipher_step, derivation_step, drawn_from, hash_step, mac_step, model_aead_step, model_cipher_step, model_derivation_step, model_hash_step, model_mac_step, next_bytes, length, refl, ◌≡◌}
 use Rattle.service_calls.specs.Answered.{AnswersReply}
-use Rattle.operation_handles.proofs.Deriving.{step_key, steps_with}
-use Rattle.operation_handles.proofs.Families.{keeps_put}
-use Rattle.operation_handles.proofs.Steps.{step_is, step_reply, step_drawn}
+use Rattle.operation_handles.proofs.{Deriving.step_key, Deriving.steps_with, Families.keeps_put, Steps.step_is, Steps.step_reply, Steps.step_drawn}
 use Rattle.operation_handles.proofs.handle.OperationHandle.step.Goals as goal
 
 pub returns-in-Hash : goal.returns-in-Hash

@@ -1,8 +1,6 @@
-use Rattle.operation_handles.proofs.Common.{AreStates, Derivations, Deriving, FamilyStates, Hashes, Hashing, Inactive, class_rows, derivation_work, first_row, hash_work, plain_reply, set_up_without_key, None, refl, subst, sym, ◌∙◌, ◌≡◌}
+use Rattle.operation_handles.proofs.{Common.AreStates, Common.Derivations, Common.Deriving, Common.FamilyStates, Common.Hashes, Common.Hashing, Common.Inactive, Common.class_rows, Common.derivation_work, Common.first_row, Common.hash_work, Common.plain_reply, Common.set_up_without_key, Common.None, Common.refl, Common.subst, Common.sym, Common.◌∙◌, Common.◌≡◌, Families.keeps_put}
 use Rattle.alg_encoding.specs.declared.table.Class.TheVariants as class
-use Rattle.operation_handles.proofs.Deriving.{set_up_has, set_up_may}
-use Rattle.operation_handles.proofs.Families.{keeps_put}
-use Rattle.operation_handles.proofs.Fresh.{set_up_are, set_up_reply}
+use Rattle.operation_handles.proofs.{Deriving.set_up_has, Deriving.set_up_may, Fresh.set_up_are, Fresh.set_up_reply}
 use Rattle.operation_handles.proofs.states.FamilyStates.begin.Goals as goal
 
 pub returns-in-Hash-clause-state : goal.returns-in-Hash-clause-state

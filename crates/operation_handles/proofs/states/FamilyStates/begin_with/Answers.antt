@@ -1,6 +1,4 @@
-use Rattle.operation_handles.proofs.Common.{Active, Aeads, Alg, Ciphers, FitsUse, Inactive, Macs, Purpose, aead_work, cipher_work, mac_work, used_for, List, Some, false, refl, subst, true, ℕ, ◌≡◌}
-use Rattle.operation_handles.proofs.Families.{keeps_put, put}
-use Rattle.operation_handles.proofs.Fresh.{set_up_of}
+use Rattle.operation_handles.proofs.{Common.Active, Common.Aeads, Common.Alg, Common.Ciphers, Common.FitsUse, Common.Inactive, Common.Macs, Common.Purpose, Common.aead_work, Common.cipher_work, Common.mac_work, Common.used_for, Common.List, Common.Some, Common.false, Common.refl, Common.subst, Common.true, Common.ℕ, Common.◌≡◌, Families.keeps_put, Families.put, Fresh.set_up_of}
 use Rattle.operation_handles.proofs.states.FamilyStates.begin_with.Goals as goal
 
 for_purpose : (a b : Purpose) (alg : Alg) (key : List ℕ) → a ≡ b → FitsUse (used_for a alg) key → FitsUse (used_for b alg) key

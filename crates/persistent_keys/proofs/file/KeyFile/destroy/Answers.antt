@@ -1,5 +1,4 @@
-use Rattle.persistent_keys.proofs.Common.{cell_state, has_id_open, open_not_free, stays_free_both, stays_free_set, StaysFree, subst, sym, Unsure}
-use Rattle.persistent_keys.proofs.{Filing.still_has, Directory.missing_unsure, Leading.destroyed_leads, Leading.undestroyed_leads, Leading.unreached_leads}
+use Rattle.persistent_keys.proofs.{Common.cell_state, Common.has_id_open, Common.open_not_free, Common.stays_free_both, Common.stays_free_set, Common.StaysFree, Common.subst, Common.sym, Common.Unsure, Filing.still_has, Directory.missing_unsure, Leading.destroyed_leads, Leading.undestroyed_leads, Leading.unreached_leads}
 use Rattle.persistent_keys.proofs.file.KeyFile.destroy.Goals as goal
 
 pub give_up-requires-clause-open : goal.give_up-requires-clause-open

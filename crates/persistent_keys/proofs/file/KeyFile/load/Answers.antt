@@ -1,7 +1,6 @@
-use Rattle.persistent_keys.proofs.Common.{ap, cell_state, settled_states}
+use Rattle.persistent_keys.proofs.{Common.ap, Common.cell_state, Common.settled_states, Directory.same_id, Leading.keeps_leads, Leading.loaded_key}
 use Rattle.std.proofs.lemmas.Result.{IfOk-weaker}
 use Rattle.secret_bytes.specs.Buffer.{bytes_of}
-use Rattle.persistent_keys.proofs.{Directory.same_id, Leading.keeps_leads, Leading.loaded_key}
 use Rattle.persistent_keys.proofs.file.KeyFile.load.Goals as goal
 
 pub returns-clause-keeps : goal.returns-clause-keeps

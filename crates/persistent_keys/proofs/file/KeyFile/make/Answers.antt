@@ -1,5 +1,4 @@
-use Rattle.persistent_keys.proofs.Common.{Err, ap, arith, body_of, refl, ◌∙◌}
-use Rattle.persistent_keys.proofs.{Directory.free_but_first, Directory.full_is_sure, Directory.full_of_settled, Directory.first_of_settled, Directory.placed_after, Leading.keeps_leads, Leading.settled_leads, Leading.made_leads, Leading.unmade_leads, Leading.no_key_in}
+use Rattle.persistent_keys.proofs.{Common.Err, Common.ap, Common.arith, Common.body_of, Common.refl, Common.◌∙◌, Directory.free_but_first, Directory.full_is_sure, Directory.full_of_settled, Directory.first_of_settled, Directory.placed_after, Leading.keeps_leads, Leading.settled_leads, Leading.made_leads, Leading.unmade_leads, Leading.no_key_in}
 use Rattle.persistent_keys.proofs.file.KeyFile.make.Goals as goal
 
 pub returns-in-Err-clause-failed : goal.returns-in-Err-clause-failed

@@ -1,6 +1,5 @@
 use Rattle.std.proofs.Common.{ap, arith, length, refl, slice_set, subst, sym, ◌<◌, ◌∙◌, ◌≡◌}
-use Rattle.script_lang.proofs.Common.{AreCounted, lines_of, read_of, slice_get_read}
-use Rattle.script_lang.proofs.States.{counted_on, is_more, more_read, more_counted, count_found, count_fits}
+use Rattle.script_lang.proofs.{Common.AreCounted, Common.lines_of, Common.read_of, Common.slice_get_read, States.counted_on, States.is_more, States.more_read, States.more_counted, States.count_found, States.count_fits}
 use Rattle.script_lang.proofs.reading.Reading.add.Goals as goal
 
 pub overflow_add-state : goal.overflow_add-state

@@ -1,6 +1,5 @@
 use Rattle.std.proofs.Common.{ap, subst, sym, ◌∙◌}
-use Rattle.script_lang.proofs.Common.{AreCounted, read_of}
-use Rattle.script_lang.proofs.States.{new_read, new_counted}
+use Rattle.script_lang.proofs.{Common.AreCounted, Common.read_of, States.new_read, States.new_counted}
 use Rattle.script_lang.proofs.reading.Reading.new.Goals as goal
 
 pub returns-clause-ok : goal.returns-clause-ok

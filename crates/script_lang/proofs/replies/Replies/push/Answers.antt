@@ -1,6 +1,5 @@
-use Rattle.std.proofs.Common.{[], ap, ap₂, arith, cond, flat_map, sym, ◌++◌, ◌+◌, ◌∙◌, ◌∷◌}
+use Rattle.std.proofs.{Common.[], Common.ap, Common.ap₂, Common.arith, Common.cond, Common.flat_map, Common.sym, Common.◌++◌, Common.◌+◌, Common.◌∙◌, Common.◌∷◌, lemmas.Grind.flat_map-append}
 use Rattle.script_lang.proofs.Common.{append-nil, count_by-le-length, is_success, length_push, next_line, ReplyLine, sum_by_push, text_in}
-use Rattle.std.proofs.lemmas.Grind.{flat_map-append}
 use Rattle.script_lang.proofs.replies.Replies.push.Goals as goal
 
 pub push_line-requires : goal.push_line-requires

@@ -1,6 +1,5 @@
 use Rattle.std.proofs.Common.{Some, ap, sym, ◌∙◌}
-use Rattle.script_lang.proofs.Common.{given_place, places_of}
-use Rattle.script_lang.proofs.Names.{inserted}
+use Rattle.script_lang.proofs.{Common.given_place, Common.places_of, Names.inserted}
 use Rattle.script_lang.proofs.sessions.SessionNames.give.Goals as goal
 
 pub returns-in_ok-insert-clause-ok : goal.returns-in_ok-insert-clause-ok

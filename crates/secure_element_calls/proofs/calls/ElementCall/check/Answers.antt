@@ -1,7 +1,5 @@
 use Rattle.std.proofs.Common.{List, arith, drop, length, subst, sym, take, ℕ, ◌∙◌, ◌≡◌}
-use Rattle.secure_element_calls.proofs.Common.{aes_encrypt, ctr_xor, given_by, length-append, length-drop, needed_by}
-use Rattle.secure_element_calls.proofs.Holding.{on_ok}
-use Rattle.secure_element_calls.proofs.Lengths.{length-ctr}
+use Rattle.secure_element_calls.proofs.{Common.aes_encrypt, Common.ctr_xor, Common.given_by, Common.length-append, Common.length-drop, Common.needed_by, Holding.on_ok, Lengths.length-ctr}
 use Rattle.secure_element_calls.proofs.calls.ElementCall.check.Goals as goal
 
 pub returns-in-CtrEncrypt-clause-given : goal.returns-in-CtrEncrypt-clause-given

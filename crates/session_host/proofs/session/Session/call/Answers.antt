@@ -1,6 +1,5 @@
-use Rattle.session_host.proofs.Common.{IfSome, IsAnswered, ap, arith, length, length-take-le, reply_of, request_of, subst, take, world, ◌∙◌, ◌≡◌}
+use Rattle.session_host.proofs.{Common.IfSome, Common.IsAnswered, Common.ap, Common.arith, Common.length, Common.length-take-le, Common.reply_of, Common.request_of, Common.subst, Common.take, Common.world, Common.◌∙◌, Common.◌≡◌, Told.is_made}
 use Rattle.service_calls.specs.Meanings.{model_request}
-use Rattle.session_host.proofs.Told.{is_made}
 use Rattle.session_host.proofs.session.Session.call.Goals as goal
 
 pub returns-clause-made : goal.returns-clause-made

@@ -1,5 +1,4 @@
-use Rattle.session_host.proofs.Common.{IfOk, IsMade, IsNoted, [], ap, inr, request_of, subst, world, ◌++◌, ◌∙◌, ◌∷◌}
-use Rattle.session_host.proofs.Told.{answered_more, made_more}
+use Rattle.session_host.proofs.{Common.IfOk, Common.IsMade, Common.IsNoted, Common.[], Common.ap, Common.inr, Common.request_of, Common.subst, Common.world, Common.◌++◌, Common.◌∙◌, Common.◌∷◌, Told.answered_more, Told.made_more}
 use Rattle.session_host.proofs.session.Session.run_line.Goals as goal
 
 pub returns-in-Ok-clause-ran : goal.returns-in-Ok-clause-ran

@@ -1,5 +1,4 @@
-use Rattle.session_host.proofs.Common.{HasLearned, IsReady, StartsWith, entries_of, get_or-set_same, get_or_default, seen_begins, subst, sym, world, ◌∙◌}
-use Rattle.session_host.proofs.Meeting.{changes_set, has_learned}
+use Rattle.session_host.proofs.{Common.HasLearned, Common.IsReady, Common.StartsWith, Common.entries_of, Common.get_or-set_same, Common.get_or_default, Common.seen_begins, Common.subst, Common.sym, Common.world, Common.◌∙◌, Meeting.changes_set, Meeting.has_learned}
 use Rattle.session_host.proofs.worker.Worker.learn.Goals as goal
 
 pub learn-requires-clause-ready : goal.learn-requires-clause-ready

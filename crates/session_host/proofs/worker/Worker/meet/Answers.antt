@@ -1,5 +1,4 @@
-use Rattle.session_host.proofs.Common.{ChangesAt, HasLearned, IfSome, IsReady, Legal, StartsWith, ap, entries_of, get_or, length, subst, sym, world, ◌<◌}
-use Rattle.session_host.proofs.Meeting.{changes_none, item_of, learned_nothing}
+use Rattle.session_host.proofs.{Common.ChangesAt, Common.HasLearned, Common.IfSome, Common.IsReady, Common.Legal, Common.StartsWith, Common.ap, Common.entries_of, Common.get_or, Common.length, Common.subst, Common.sym, Common.world, Common.◌<◌, Meeting.changes_none, Meeting.item_of, Meeting.learned_nothing}
 use Rattle.session_host.proofs.worker.Worker.meet.Goals as goal
 
 pub returns-in_default-clause-learned : goal.returns-in_default-clause-learned

@@ -1,5 +1,4 @@
-use Rattle.session_host.proofs.Common.{false, refl, take, world, ◌∙◌}
-use Rattle.session_host.proofs.Working.{ran_next, stopped}
+use Rattle.session_host.proofs.{Common.false, Common.refl, Common.take, Common.world, Common.◌∙◌, Working.ran_next, Working.stopped}
 use Rattle.session_host.proofs.worker.Worker.run.Goals as goal
 
 pub loop-line-preserved : goal.loop-line-preserved

@@ -1,6 +1,5 @@
-use Rattle.session_host.proofs.Common.{All, Session, Some, ap, arith, get_or, length, refl, subst, world, ◌<◌, ◌≡◌, ◌≢◌, ◌≤◌}
+use Rattle.session_host.proofs.{Common.All, Common.Session, Common.Some, Common.ap, Common.arith, Common.get_or, Common.length, Common.refl, Common.subst, Common.world, Common.◌<◌, Common.◌≡◌, Common.◌≢◌, Common.◌≤◌, Working.answered_here, Working.few_replies, Working.ran_line, Working.ran_none, Working.same_form, Working.same_numbers}
 use Rattle.std.specs.Vec.{with_item, with_items}
-use Rattle.session_host.proofs.Working.{answered_here, few_replies, ran_line, ran_none, same_form, same_numbers}
 use Rattle.session_host.proofs.worker.Worker.run_line.Goals as goal
 
 pub returns-in_default-clause-ran : goal.returns-in_default-clause-ran

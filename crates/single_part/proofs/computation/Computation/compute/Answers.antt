@@ -1,9 +1,8 @@
 use Rattle.std.proofs.Common.{List, ap, refl, subst, sym, ℕ, ◌∙◌, ◌≡◌}
 use Rattle.alg_encoding.specs.declared.algorithm.Alg.{Alg}
 use Rattle.service_calls.specs.declared.store_calls.Keyed.{Keyed}
-use Rattle.single_part.proofs.Common.{algorithm_in, Class, IsKeyFor, KeyedCall, verified_reply, wanted_by}
+use Rattle.single_part.proofs.{Common.algorithm_in, Common.Class, Common.IsKeyFor, Common.KeyedCall, Common.verified_reply, Common.wanted_by, Draws.draws_none}
 use Rattle.key_policy.specs.Uses.{FitsUse}
-use Rattle.single_part.proofs.Draws.{draws_none}
 use Rattle.single_part.proofs.computation.Computation.compute.Goals as goal
 
 -- the call that is computed, and its algorithm's number as it was parsed

@@ -1,5 +1,4 @@
-use Rattle.slot_table.proofs.Common.{AreLinksOf, arith, length, recency_without, ◌≤◌}
-use Rattle.slot_table.proofs.{Linked.links_without, Linked.own_row, Linked.row_is, Linked.slot_within, Times.length-without}
+use Rattle.slot_table.proofs.{Common.AreLinksOf, Common.arith, Common.length, Common.recency_without, Common.◌≤◌, Linked.links_without, Linked.own_row, Linked.row_is, Linked.slot_within, Times.length-without}
 use Rattle.slot_table.proofs.recency.Recency.forget.Goals as goal
 
 pub bounds-deref-slot : goal.bounds-deref-slot

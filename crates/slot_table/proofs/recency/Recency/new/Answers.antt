@@ -1,5 +1,4 @@
-use Rattle.slot_table.proofs.Common.{refl}
-use Rattle.slot_table.proofs.Linked.{links_start, own_row, row_is}
+use Rattle.slot_table.proofs.{Common.refl, Linked.links_start, Linked.own_row, Linked.row_is}
 use Rattle.slot_table.proofs.recency.Recency.new.Goals as goal
 
 pub invariant_of-result : goal.invariant_of-result

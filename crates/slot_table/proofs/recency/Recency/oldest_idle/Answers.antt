@@ -1,5 +1,4 @@
-use Rattle.slot_table.proofs.Common.{sym, ◌∙◌}
-use Rattle.slot_table.proofs.Linked.{finds_here, finds_later, finds_none_after_all, finds_none_at_ends}
+use Rattle.slot_table.proofs.{Common.sym, Common.◌∙◌, Linked.finds_here, Linked.finds_later, Linked.finds_none_after_all, Linked.finds_none_at_ends}
 use Rattle.slot_table.proofs.recency.Recency.oldest_idle.Goals as goal
 
 pub returns-then-slot-eq-ENDS : goal.returns-then-slot-eq-ENDS

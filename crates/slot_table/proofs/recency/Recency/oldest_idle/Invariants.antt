@@ -1,5 +1,4 @@
-use Rattle.slot_table.proofs.Common.{is_idle, slot_at, ◌≤◌}
-use Rattle.slot_table.proofs.Linked.{IsAt}
+use Rattle.slot_table.proofs.{Common.is_idle, Common.slot_at, Common.◌≤◌, Linked.IsAt}
 use Rattle.slot_table.proofs.recency.Recency.oldest_idle.Given as goal
 
 abbrev pub invariant-loop : goal.invariant-loop

@@ -1,5 +1,4 @@
-use Rattle.slot_table.proofs.Common.{AreLinksOf, [], ◌++◌, ◌∷◌}
-use Rattle.slot_table.proofs.Linked.{links_with, own_row, row_is}
+use Rattle.slot_table.proofs.{Common.AreLinksOf, Common.[], Common.◌++◌, Common.◌∷◌, Linked.links_with, Linked.own_row, Linked.row_is}
 use Rattle.slot_table.proofs.recency.Recency.push.Goals as goal
 
 links_after : (c : goal.After-self-2-1) → AreLinksOf (c.args.self.now ++ c.args.slot ∷ []) c.join-2.new.links

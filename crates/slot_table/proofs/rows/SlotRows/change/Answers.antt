@@ -1,5 +1,4 @@
-use Rattle.slot_table.proofs.Common.{arith, empty_head, get_or_read, no_key, refl}
-use Rattle.slot_table.proofs.Views.{stands_at, changed_head}
+use Rattle.slot_table.proofs.{Common.arith, Common.empty_head, Common.get_or_read, Common.no_key, Common.refl, Views.stands_at, Views.changed_head}
 use Rattle.slot_table.proofs.rows.SlotRows.change.Goals as goal
 
 pub index-requires : goal.index-requires

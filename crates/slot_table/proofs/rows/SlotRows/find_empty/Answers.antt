@@ -1,5 +1,4 @@
-use Rattle.slot_table.proofs.Common.{Head, Slot, ap, arith, below_more, empty_head, get_or_read, is_empty_state, length, sym, ◌<◌, ◌∙◌}
-use Rattle.slot_table.proofs.Views.{slot_is, length_is}
+use Rattle.slot_table.proofs.{Common.Head, Common.Slot, Common.ap, Common.arith, Common.below_more, Common.empty_head, Common.get_or_read, Common.is_empty_state, Common.length, Common.sym, Common.◌<◌, Common.◌∙◌, Views.slot_is, Views.length_is}
 use Rattle.slot_table.proofs.rows.SlotRows.find_empty.Goals as goal
 
 pub returns-then-is_empty : goal.returns-then-is_empty

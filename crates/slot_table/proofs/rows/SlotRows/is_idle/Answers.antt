@@ -1,5 +1,4 @@
-use Rattle.slot_table.proofs.Common.{ap, arith, empty_head, empty_slot, get_or_past, get_or_read, is_idle, length, no_key, sym, ◌<◌}
-use Rattle.slot_table.proofs.Views.{slot_is, length_is}
+use Rattle.slot_table.proofs.{Common.ap, Common.arith, Common.empty_head, Common.empty_slot, Common.get_or_past, Common.get_or_read, Common.is_idle, Common.length, Common.no_key, Common.sym, Common.◌<◌, Views.slot_is, Views.length_is}
 use Rattle.slot_table.proofs.rows.SlotRows.is_idle.Goals as goal
 
 pub returns-then-place-len : goal.returns-then-place-len

@@ -1,5 +1,4 @@
-use Rattle.slot_table.proofs.Common.{arith, empty_head, get_or_read, no_key}
-use Rattle.slot_table.proofs.Views.{stands_at}
+use Rattle.slot_table.proofs.{Common.arith, Common.empty_head, Common.get_or_read, Common.no_key, Views.stands_at}
 use Rattle.slot_table.proofs.rows.SlotRows.is_last.Goals as goal
 
 pub index-requires : goal.index-requires

@@ -1,5 +1,4 @@
-use Rattle.slot_table.proofs.Common.{arith, get_or_read, no_key, refl}
-use Rattle.slot_table.proofs.Views.{stands_at}
+use Rattle.slot_table.proofs.{Common.arith, Common.get_or_read, Common.no_key, Common.refl, Views.stands_at}
 use Rattle.slot_table.proofs.rows.SlotRows.key.Goals as goal
 
 pub index-requires : goal.index-requires

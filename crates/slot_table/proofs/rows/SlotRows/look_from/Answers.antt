@@ -1,5 +1,4 @@
-use Rattle.slot_table.proofs.Common.{Slot, ap, is_empty_state, sym, ◌∙◌}
-use Rattle.slot_table.proofs.Views.{slot_is}
+use Rattle.slot_table.proofs.{Common.Slot, Common.ap, Common.is_empty_state, Common.sym, Common.◌∙◌, Views.slot_is}
 use Rattle.slot_table.proofs.rows.SlotRows.look_from.Goals as goal
 
 pub invariant_of-self : goal.invariant_of-self

@@ -1,5 +1,4 @@
-use Rattle.slot_table.proofs.Common.{ap, empty_head, replicate, rules, slots_of, ◌∙◌, ◌≡◌}
-use Rattle.slot_table.proofs.Views.{slots_of-replicate, AreRows-replicate}
+use Rattle.slot_table.proofs.{Common.ap, Common.empty_head, Common.replicate, Common.rules, Common.slots_of, Common.◌∙◌, Common.◌≡◌, Views.slots_of-replicate, Views.AreRows-replicate}
 use Rattle.slot_table.proofs.rows.SlotRows.new.Goals as goal
 
 pub invariant_of-result : goal.invariant_of-result

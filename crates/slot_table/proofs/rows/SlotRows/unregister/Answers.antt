@@ -1,5 +1,4 @@
-use Rattle.slot_table.proofs.Common.{arith, get_or_read, no_key, refl}
-use Rattle.slot_table.proofs.Views.{stands_at, changed_key}
+use Rattle.slot_table.proofs.{Common.arith, Common.get_or_read, Common.no_key, Common.refl, Views.stands_at, Views.changed_key}
 use Rattle.slot_table.proofs.rows.SlotRows.unregister.Goals as goal
 
 pub index_mut-key-requires : goal.index_mut-key-requires

@@ -1,5 +1,4 @@
-use Rattle.slot_table.proofs.Common.{CanReserve, List, NoneEmpty, Slot, Table, ap, subst, sym, ◌∙◌}
-use Rattle.slot_table.proofs.Laws.{reserves_empty, reserves_idle, finds_none}
+use Rattle.slot_table.proofs.{Common.CanReserve, Common.List, Common.NoneEmpty, Common.Slot, Common.Table, Common.ap, Common.subst, Common.sym, Common.◌∙◌, Laws.reserves_empty, Laws.reserves_idle, Laws.finds_none}
 use Rattle.slot_table.proofs.table.SlotTable.can_reserve.Goals as goal
 
 pub returns-then-is_some-clause-room : goal.returns-then-is_some-clause-room

@@ -1,5 +1,4 @@
-use Rattle.slot_table.proofs.Common.{Full, Table, ap, refl, slot_at, ◌≡◌}
-use Rattle.slot_table.proofs.{AtSlots.full_within, Laws.lawful_empty, Tables.table_loses}
+use Rattle.slot_table.proofs.{Common.Full, Common.Table, Common.ap, Common.refl, Common.slot_at, Common.◌≡◌, AtSlots.full_within, Laws.lawful_empty, Tables.table_loses}
 use Rattle.slot_table.proofs.table.SlotTable.discard.Goals as goal
 
 pub invariant_of-self : goal.invariant_of-self

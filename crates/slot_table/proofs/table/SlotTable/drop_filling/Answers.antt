@@ -1,5 +1,4 @@
-use Rattle.slot_table.proofs.Common.{Filling, Reserved, Table, ap, is_full, refl, slot_at, ◌≡◌}
-use Rattle.slot_table.proofs.{AtSlots.filling_within, Laws.lawful_empty, Tables.unused_stays}
+use Rattle.slot_table.proofs.{Common.Filling, Common.Reserved, Common.Table, Common.ap, Common.is_full, Common.refl, Common.slot_at, Common.◌≡◌, AtSlots.filling_within, Laws.lawful_empty, Tables.unused_stays}
 use Rattle.slot_table.proofs.table.SlotTable.drop_filling.Goals as goal
 
 pub invariant_of-self : goal.invariant_of-self

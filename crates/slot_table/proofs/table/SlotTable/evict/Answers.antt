@@ -1,5 +1,4 @@
-use Rattle.slot_table.proofs.Common.{sym, ◌∙◌}
-use Rattle.slot_table.proofs.Laws.{idle_is_found, first_is_full, first_is_unread}
+use Rattle.slot_table.proofs.{Common.sym, Common.◌∙◌, Laws.idle_is_found, Laws.first_is_full, Laws.first_is_unread}
 use Rattle.slot_table.proofs.table.SlotTable.evict.Goals as goal
 
 pub unwrap-oldest-requires : goal.unwrap-oldest-requires

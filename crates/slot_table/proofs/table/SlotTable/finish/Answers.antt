@@ -1,5 +1,4 @@
-use Rattle.slot_table.proofs.Common.{NoKey, Table, ap, arith, cond, refl, ◌∙◌}
-use Rattle.slot_table.proofs.{Laws.lawful_new, Tables.has_room, Tables.table_gains}
+use Rattle.slot_table.proofs.{Common.NoKey, Common.Table, Common.ap, Common.arith, Common.cond, Common.refl, Common.◌∙◌, Laws.lawful_new, Tables.has_room, Tables.table_gains}
 use Rattle.slot_table.proofs.table.SlotTable.finish.Goals as goal
 
 pub push-requires-clause-within : goal.push-requires-clause-within

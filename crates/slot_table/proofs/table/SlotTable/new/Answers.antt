@@ -1,5 +1,4 @@
-use Rattle.slot_table.proofs.Common.{refl}
-use Rattle.slot_table.proofs.Tables.{table_starts}
+use Rattle.slot_table.proofs.{Common.refl, Tables.table_starts}
 use Rattle.slot_table.proofs.table.SlotTable.new.Goals as goal
 
 pub invariant_of-result : goal.invariant_of-result

@@ -1,5 +1,4 @@
-use Rattle.slot_table.proofs.Common.{Full, Table, [], ap, arith, cond, is_full, length-append, recency_without, refl, slot_at, times, ◌∙◌, ◌∷◌, ◌≡◌}
-use Rattle.slot_table.proofs.{Times.length-without, AtSlots.full_within, Indexed.index_stays, Laws.becomes_last, Laws.lawful_full}
+use Rattle.slot_table.proofs.{Common.Full, Common.Table, Common.[], Common.ap, Common.arith, Common.cond, Common.is_full, Common.length-append, Common.recency_without, Common.refl, Common.slot_at, Common.times, Common.◌∙◌, Common.◌∷◌, Common.◌≡◌, Times.length-without, AtSlots.full_within, Indexed.index_stays, Laws.becomes_last, Laws.lawful_full}
 use Rattle.slot_table.proofs.table.SlotTable.register.Goals as goal
 
 pub invariant_of-self : goal.invariant_of-self

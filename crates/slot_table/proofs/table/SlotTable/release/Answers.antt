@@ -1,5 +1,4 @@
-use Rattle.slot_table.proofs.Common.{Table, ap, false, is_last, refl, slot_at, sym, true, ◌<◌, ◌∙◌, ◌≡◌}
-use Rattle.slot_table.proofs.{AtSlots.read_within, Laws.loses_reader, Laws.lawful_empty, Laws.pending_is_unused, Indexed.index_stays, Tables.unused_stays}
+use Rattle.slot_table.proofs.{Common.Table, Common.ap, Common.false, Common.is_last, Common.refl, Common.slot_at, Common.sym, Common.true, Common.◌<◌, Common.◌∙◌, Common.◌≡◌, AtSlots.read_within, Laws.loses_reader, Laws.lawful_empty, Laws.pending_is_unused, Indexed.index_stays, Tables.unused_stays}
 use Rattle.slot_table.proofs.table.SlotTable.release.Goals as goal
 
 pub is_last-requires : goal.is_last-requires

@@ -1,5 +1,4 @@
-use Rattle.slot_table.proofs.Common.{ap, empty_slot, get_or-set_same, is_empty_state, length, length-set, recency_without, set-set, Slot, sym, Table, ◌<◌, ◌∙◌}
-use Rattle.slot_table.proofs.{AtSlots.full_within, Laws.first_is_full, Laws.empty_is_not_recent}
+use Rattle.slot_table.proofs.{Common.ap, Common.empty_slot, Common.get_or-set_same, Common.is_empty_state, Common.length, Common.length-set, Common.recency_without, Common.set-set, Common.Slot, Common.sym, Common.Table, Common.◌<◌, Common.◌∙◌, AtSlots.full_within, Laws.first_is_full, Laws.empty_is_not_recent}
 use Rattle.slot_table.proofs.table.SlotTable.reserve.Goals as goal
 
 pub returns-in-Some-clause-recency : goal.returns-in-Some-clause-recency

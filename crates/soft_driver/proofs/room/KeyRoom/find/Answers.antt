@@ -1,6 +1,5 @@
 use Rattle.std.proofs.Common.{Some, ap, refl, subst, sym, ◌∙◌, ◌≡◌}
-use Rattle.soft_driver.proofs.Common.{HasHandleAt, IsSized, IsSomeKey, held_key, key_held, keys_of}
-use Rattle.soft_driver.proofs.Rooms.{in_map, lacks_not}
+use Rattle.soft_driver.proofs.{Common.HasHandleAt, Common.IsSized, Common.IsSomeKey, Common.held_key, Common.key_held, Common.keys_of, Rooms.in_map, Rooms.lacks_not}
 use Rattle.soft_driver.proofs.room.KeyRoom.find.Goals as goal
 
 pub held_index-requires-clause-there : goal.held_index-requires-clause-there

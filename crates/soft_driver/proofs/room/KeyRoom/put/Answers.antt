@@ -1,8 +1,6 @@
 use Rattle.std.proofs.Common.{ap, arith, is_ok, length, refl, replicate, rules, set, subst, sym, ◌∙◌, ◌≡◌, if◌then◌else◌}
-use Rattle.std.specs.List.{insert}
-use Rattle.std.specs.Vec.{vec_capacity}
-use Rattle.soft_driver.proofs.Common.{Held, IsGapFor, IsKeyRoom, IsSized, LacksHandle, held_key, key_held, keys_of, with_held_key}
-use Rattle.soft_driver.proofs.Rooms.{has_space, lacks_new, room_put}
+use Rattle.std.specs.{List.insert, Vec.vec_capacity}
+use Rattle.soft_driver.proofs.{Common.Held, Common.IsGapFor, Common.IsKeyRoom, Common.IsSized, Common.LacksHandle, Common.held_key, Common.key_held, Common.keys_of, Common.with_held_key, Rooms.has_space, Rooms.lacks_new, Rooms.room_put}
 use Rattle.soft_driver.proofs.room.KeyRoom.put.Goals as goal
 
 pub gap_for-gap-requires-clause-new : goal.gap_for-gap-requires-clause-new

@@ -1,6 +1,5 @@
 use Rattle.std.proofs.Common.{subst}
-use Rattle.soft_driver.proofs.Common.{HasHandleAt}
-use Rattle.soft_driver.proofs.Rooms.{lacks_not, room_without}
+use Rattle.soft_driver.proofs.{Common.HasHandleAt, Rooms.lacks_not, Rooms.room_without}
 use Rattle.soft_driver.proofs.room.KeyRoom.remove.Goals as goal
 
 pub held_index-index-requires-clause-there : goal.held_index-index-requires-clause-there

@@ -1,7 +1,6 @@
 use Rattle.std.proofs.Common.{[], ℕ, ◌+◌, ◌∷◌}
 use Rattle.store_bench.specs.Keeping.{first_has}
-use Rattle.store_bench.proofs.Outs.{first_gains, no_leases, none}
-use Rattle.store_bench.proofs.Keepings.{out, taken}
+use Rattle.store_bench.proofs.{Outs.first_gains, Outs.no_leases, Outs.none, Keepings.out, Keepings.taken}
 use Rattle.store_bench.proofs.keeper.Keeper.gives.Goals as goal
 
 pub leave-spare-requires-clause-out : goal.leave-spare-requires-clause-out

@@ -1,9 +1,7 @@
 use Rattle.std.proofs.Common.{None, [], ap, arith, length, ℕ, ◌∷◌}
-use Rattle.store_core.specs.declared.store.Store.{Store}
-use Rattle.store_core.specs.Prelude.{IsMade, IsUnmade, RecordsStated, mark_unmade}
+use Rattle.store_core.specs.{declared.store.Store.Store, Prelude.IsMade, Prelude.IsUnmade, Prelude.RecordsStated, Prelude.mark_unmade}
 use Rattle.store_bench.specs.Keeping.{first_has}
-use Rattle.store_bench.proofs.Outs.{first_gains, none}
-use Rattle.store_bench.proofs.Keepings.{few_reserved, made_or_not, out_alone, reserved}
+use Rattle.store_bench.proofs.{Outs.first_gains, Outs.none, Keepings.few_reserved, Keepings.made_or_not, Keepings.out_alone, Keepings.reserved}
 use Rattle.store_bench.proofs.keeper.Keeper.import.Goals as goal
 
 pub finish-requires-clause-out : goal.finish-requires-clause-out

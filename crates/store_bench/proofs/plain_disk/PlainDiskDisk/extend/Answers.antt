@@ -1,5 +1,4 @@
-use Rattle.std.proofs.Common.{List, arith, length, ℕ}
-use Rattle.std.proofs.lemmas.List.{take_all}
+use Rattle.std.proofs.{Common.List, Common.arith, Common.length, Common.ℕ, lemmas.List.take_all}
 use Rattle.disk_face.specs.Disk.{Grown}
 use Rattle.store_bench.proofs.plain_disk.PlainDiskDisk.extend.Goals as goal
 

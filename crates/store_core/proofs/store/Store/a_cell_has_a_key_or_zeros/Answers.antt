@@ -1,5 +1,4 @@
-use Rattle.store_core.proofs.Common.{course_of, durable_keys}
-use Rattle.store_core.proofs.Sure.{sure_cells}
+use Rattle.store_core.proofs.{Common.course_of, Common.durable_keys, Sure.sure_cells}
 use Rattle.store_core.proofs.store.Store.a_cell_has_a_key_or_zeros.Goals as goal
 
 pub returns : goal.returns

@@ -1,5 +1,4 @@
-use Rattle.store_core.proofs.Common.{last_store}
-use Rattle.store_core.proofs.{Wiped.shows_free, Zeroed.stays_zeros, Zeroed.left_zeros, Freeing.freed_zeros}
+use Rattle.store_core.proofs.{Common.last_store, Wiped.shows_free, Zeroed.stays_zeros, Zeroed.left_zeros, Freeing.freed_zeros}
 use Rattle.store_core.proofs.store.Store.a_freed_cell_stays_zeros.Goals as goal
 
 pub returns-clause-within : goal.returns-clause-within

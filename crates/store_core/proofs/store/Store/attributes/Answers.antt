@@ -1,5 +1,4 @@
-use Rattle.store_core.proofs.Common.{HasAttributes, refl, sym, there_rows, ◌∙◌}
-use Rattle.store_core.proofs.{Refusing.ends_found, Refusing.ends_unread, Missing.is_missing_why}
+use Rattle.store_core.proofs.{Common.HasAttributes, Common.refl, Common.sym, Common.there_rows, Common.◌∙◌, Refusing.ends_found, Refusing.ends_unread, Missing.is_missing_why}
 use Rattle.store_core.proofs.store.Store.attributes.Goals as goal
 
 pub returns-in-Ok-clause-known : goal.returns-in-Ok-clause-known

@@ -134,6 +134,7 @@ returns-in-Err g c =
       keeps = loaded.keeps;
       devices = refl {a = old.devices};
       rules = refl {a = old.rules};
+      limits = refl {a = old.limits};
       made = refl {a = old.made};
       found_count = refl {a = old.found};
       ranked = refl {a = old.ranked};

@@ -1,10 +1,5 @@
 use Rattle.store_core.proofs.Common.{[], ap, buffer_of, bytes_of, Copy, course_of, durable_keys, Enters, Entry, inl, IsAboutToCreate, IsEntry, IsOut, IsTold, IsUnkept, Key, last_counts, mark_unkept, Model, new_id, OnStore, Option, Plain, ranked_on, recorded_copy, refl, replay, slot_at, Store, subst, sym, ℕ, ◌++◌, ◌∙◌, ◌∷◌, ◌≡◌}
-use Rattle.store_core.proofs.Changing.{retold}
-use Rattle.store_core.proofs.Holding.{has_model, with_buffer}
-use Rattle.store_core.proofs.Refusing.{asks_for}
-use Rattle.store_core.proofs.Finishing.{rebuffered, refuses, since_later}
-use Rattle.store_core.proofs.CopyTurn.{reads_source, keeps, refused_here, material_of, ready, making, decided_here, either, uncopied}
-use Rattle.store_core.proofs.Ending.{copy_ends, copy_empties}
+use Rattle.store_core.proofs.{Changing.retold, Holding.has_model, Holding.with_buffer, Refusing.asks_for, Finishing.rebuffered, Finishing.refuses, Finishing.since_later, CopyTurn.reads_source, CopyTurn.keeps, CopyTurn.refused_here, CopyTurn.material_of, CopyTurn.ready, CopyTurn.making, CopyTurn.decided_here, CopyTurn.either, CopyTurn.uncopied, Ending.copy_ends, Ending.copy_empties}
 use Rattle.store_core.proofs.Zeroed.{read_first}
 use Rattle.store_core.proofs.store.Store.copy.Goals as goal
 

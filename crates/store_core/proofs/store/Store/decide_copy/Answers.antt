@@ -1,5 +1,4 @@
-use Rattle.store_core.proofs.Common.{ap, Attributes, recorded_of, sym, ◌/◌, ◌∙◌}
-use Rattle.store_core.proofs.Copied.{bytes_by_bits}
+use Rattle.store_core.proofs.{Common.ap, Common.Attributes, Common.recorded_of, Common.sym, Common.◌/◌, Common.◌∙◌, Copied.bytes_by_bits}
 use Rattle.store_core.proofs.store.Store.decide_copy.Goals as goal
 
 pub returns-in-Ok : goal.returns-in-Ok

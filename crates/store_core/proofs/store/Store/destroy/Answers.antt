@@ -1,6 +1,5 @@
-use Rattle.store_core.proofs.Common.{arith, map_get}
+use Rattle.store_core.proofs.{Common.arith, Common.map_get, Kept.key_of_cell, Kept.no_key, Destroyed.low_lasts, Destroyed.none_at_zero, Destroyed.none_unstated, Destroyed.rows_zero, Destroyed.rows_missing, Destroyed.stated_here, DestroyTurn.nothing, Ending.lacks_key, Zeroed.lacks_cell}
 use Rattle.std.proofs.lemmas.Result.{on_ok_weaker}
-use Rattle.store_core.proofs.{Kept.key_of_cell, Kept.no_key, Destroyed.low_lasts, Destroyed.none_at_zero, Destroyed.none_unstated, Destroyed.rows_zero, Destroyed.rows_missing, Destroyed.stated_here, DestroyTurn.nothing, Ending.lacks_key, Zeroed.lacks_cell}
 use Rattle.store_core.specs.Uses.{FreesCellsOf}
 use Rattle.store_core.proofs.store.Store.destroy.Goals as goal
 

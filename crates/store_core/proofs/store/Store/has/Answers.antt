@@ -1,5 +1,4 @@
-use Rattle.store_core.proofs.Common.{ap, arith, is_some}
-use Rattle.store_core.proofs.{Kept.key_of_cell, Kept.no_key, Destroyed.low_lasts, Destroyed.none_unstated}
+use Rattle.store_core.proofs.{Common.ap, Common.arith, Common.is_some, Kept.key_of_cell, Kept.no_key, Destroyed.low_lasts, Destroyed.none_unstated}
 use Rattle.store_core.proofs.store.Store.has.Goals as goal
 
 pub returns-in-None : goal.returns-in-None

@@ -1,5 +1,4 @@
-use Rattle.store_core.proofs.Common.{ap, arith, InvalidHandle, map_get, Model, None, refl, Some, subst, sym, there_rows, ◌≡◌}
-use Rattle.store_core.proofs.{Changing.counts_on, Kept.key_of_cell, Kept.no_key}
+use Rattle.store_core.proofs.{Common.ap, Common.arith, Common.InvalidHandle, Common.map_get, Common.Model, Common.None, Common.refl, Common.Some, Common.subst, Common.sym, Common.there_rows, Common.◌≡◌, Changing.counts_on, Kept.key_of_cell, Kept.no_key}
 use Rattle.store_core.proofs.store.Store.purge.Goals as goal
 
 pub returns-in-Some-clause-there : goal.returns-in-Some-clause-there

@@ -1,5 +1,4 @@
-use Rattle.store_core.proofs.Common.{ap, has_element, None, Some, sym, ◌∙◌}
-use Rattle.store_core.proofs.Asked.{asks, by_room, unchecked, unruled}
+use Rattle.store_core.proofs.{Common.ap, Common.has_element, Common.None, Common.Some, Common.sym, Common.◌∙◌, Asked.asks, Asked.by_room, Asked.unchecked, Asked.unruled}
 use Rattle.store_core.proofs.store.Store.recorded.Goals as goal
 
 pub returns-in-Ok-check_room-clause-value : goal.returns-in-Ok-check_room-clause-value

@@ -1,5 +1,4 @@
-use Rattle.store_core.proofs.Common.{always_found}
-use Rattle.store_core.proofs.Holding.{unranked}
+use Rattle.store_core.proofs.{Common.always_found, Holding.unranked}
 use Rattle.store_core.proofs.store.Store.reserve.Goals as goal
 
 pub reserve-requires : goal.reserve-requires

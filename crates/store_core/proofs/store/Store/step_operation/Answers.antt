@@ -1,5 +1,4 @@
-use Rattle.store_core.proofs.Common.{false≢true, HasNumber, Model, refl, subst, sym}
-use Rattle.store_core.proofs.Changing.{counts_on}
+use Rattle.store_core.proofs.{Common.false≢true, Common.HasNumber, Common.Model, Common.refl, Common.subst, Common.sym, Changing.counts_on}
 use Rattle.store_core.proofs.store.Store.step_operation.Goals as goal
 
 pub is_alive-requires : goal.is_alive-requires

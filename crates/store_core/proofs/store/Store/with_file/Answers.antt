@@ -14,6 +14,7 @@ returns g c = record {
   slots = refl;
   devices = refl;
   rules = refl;
+  limits = refl;
   made = refl;
   live = refl;
   kept = c.count-count.ensures.count;
@@ -23,5 +24,6 @@ returns g c = record {
   saw_file = c.of.ensures;
   saw_devices = c.of-2.ensures;
   saw_rules = c.of-3.ensures;
-  saw_seed = c.of-4.ensures;
+  saw_limits = c.of-4.ensures;
+  saw_seed = c.of-5.ensures;
 }

@@ -1,5 +1,4 @@
-use Rattle.turn_history.proofs.Common.{Closing, Some, boxed_base, boxed_stands, some-injective, subst, sym, ◌∙◌}
-use Rattle.turn_history.proofs.{Boxed.closing_value, Ends.closes, Keeping.some_same}
+use Rattle.turn_history.proofs.{Common.Closing, Common.Some, Common.boxed_base, Common.boxed_stands, Common.some-injective, Common.subst, Common.sym, Common.◌∙◌, Boxed.closing_value, Ends.closes, Keeping.some_same}
 use Rattle.turn_history.proofs.ending.Ending.end.Goals as goal
 
 pub unreachable-requires : goal.unreachable-requires

@@ -1,5 +1,4 @@
-use Rattle.turn_history.proofs.Common.{boxed_base, boxed_stands, rules}
-use Rattle.turn_history.proofs.Joining.{gathers}
+use Rattle.turn_history.proofs.{Common.boxed_base, Common.boxed_stands, Common.rules, Joining.gathers}
 use Rattle.turn_history.proofs.ending.Ending.take.Goals as goal
 
 pub join_seat-requires : goal.join_seat-requires

@@ -1,5 +1,4 @@
-use Rattle.turn_history.proofs.Common.{IsIdle, [], account_of, ap, append_assoc, subst, sym, ◌++◌, ◌+◌, ◌∙◌, ◌∷◌}
-use Rattle.turn_history.proofs.{Lists.All_next, Passes.accounts_snoc, Passes.weight_snoc}
+use Rattle.turn_history.proofs.{Common.IsIdle, Common.[], Common.account_of, Common.ap, Common.append_assoc, Common.subst, Common.sym, Common.◌++◌, Common.◌+◌, Common.◌∙◌, Common.◌∷◌, Lists.All_next, Passes.accounts_snoc, Passes.weight_snoc}
 use Rattle.turn_history.proofs.lock.HistoryLock.close.Goals as goal
 
 pub take-requires : goal.take-requires

@@ -1,5 +1,4 @@
-use Rattle.turn_history.proofs.Common.{Found, Some, ap, arith, boxed_base, boxed_stands, entries_of, rules, subst, sym, ◌∙◌, ◌≡◌}
-use Rattle.turn_history.proofs.{Lists.entries_fewer, Turning.draws, Turning.looks, Turning.finds_value}
+use Rattle.turn_history.proofs.{Common.Found, Common.Some, Common.ap, Common.arith, Common.boxed_base, Common.boxed_stands, Common.entries_of, Common.rules, Common.subst, Common.sym, Common.◌∙◌, Common.◌≡◌, Lists.entries_fewer, Turning.draws, Turning.looks, Turning.finds_value}
 use Rattle.turn_history.proofs.lock.HistoryLock.enter.Goals as goal
 
 pub fetch_add-ticket-requires : goal.fetch_add-ticket-requires

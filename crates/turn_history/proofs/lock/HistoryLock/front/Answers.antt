@@ -1,5 +1,4 @@
-use Rattle.turn_history.proofs.Common.{boxed_base, boxed_stands, rules}
-use Rattle.turn_history.proofs.Turning.{fronts}
+use Rattle.turn_history.proofs.{Common.boxed_base, Common.boxed_stands, Common.rules, Turning.fronts}
 use Rattle.turn_history.proofs.lock.HistoryLock.front.Goals as goal
 
 pub load-requires : goal.load-requires

@@ -1,5 +1,4 @@
-use Rattle.turn_history.proofs.Common.{boxed_base, boxed_stands, rules}
-use Rattle.turn_history.proofs.Joining.{joins, compares, one_of_two}
+use Rattle.turn_history.proofs.{Common.boxed_base, Common.boxed_stands, Common.rules, Joining.joins, Joining.compares, Joining.one_of_two}
 use Rattle.turn_history.proofs.lock.HistoryLock.join.Goals as goal
 
 pub join_seat-requires : goal.join_seat-requires

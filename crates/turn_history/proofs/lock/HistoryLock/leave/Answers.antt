@@ -1,5 +1,4 @@
-use Rattle.turn_history.proofs.Common.{boxed_base, boxed_stands, rules}
-use Rattle.turn_history.proofs.Turning.{ends_at}
+use Rattle.turn_history.proofs.{Common.boxed_base, Common.boxed_stands, Common.rules, Turning.ends_at}
 use Rattle.turn_history.proofs.lock.HistoryLock.leave.Goals as goal
 
 pub fetch_add-ticket-requires : goal.fetch_add-ticket-requires

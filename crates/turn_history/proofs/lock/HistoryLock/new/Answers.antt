@@ -1,5 +1,4 @@
-use Rattle.turn_history.proofs.Common.{[], ap, boxed_base, boxed_stands, replicate, rules, subst, sym, ◌∙◌}
-use Rattle.turn_history.proofs.Ends.{opens}
+use Rattle.turn_history.proofs.{Common.[], Common.ap, Common.boxed_base, Common.boxed_stands, Common.replicate, Common.rules, Common.subst, Common.sym, Common.◌∙◌, Ends.opens}
 use Rattle.turn_history.proofs.lock.HistoryLock.new.Goals as goal
 
 pub new-requires-2 : goal.new-requires-2

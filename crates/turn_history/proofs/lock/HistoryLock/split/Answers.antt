@@ -1,5 +1,4 @@
-use Rattle.turn_history.proofs.Common.{boxed_base, boxed_stands, rules}
-use Rattle.turn_history.proofs.Splitting.{watches}
+use Rattle.turn_history.proofs.{Common.boxed_base, Common.boxed_stands, Common.rules, Splitting.watches}
 use Rattle.turn_history.proofs.lock.HistoryLock.split.Goals as goal
 
 pub split_seat-requires : goal.split_seat-requires

@@ -1,5 +1,4 @@
-use Rattle.turn_history.proofs.Common.{[], boxed_base, boxed_stands, first_view, rules}
-use Rattle.turn_history.proofs.Ends.{sits}
+use Rattle.turn_history.proofs.{Common.[], Common.boxed_base, Common.boxed_stands, Common.first_view, Common.rules, Ends.sits}
 use Rattle.turn_history.proofs.lock.HistoryLock.start_ending.Goals as goal
 
 pub load_new_seat-last-requires : goal.load_new_seat-last-requires
