@@ -7,10 +7,11 @@ The program is ./psa where none is named; it has to be one process, as the prove
 purges and destroys persistent keys by one worker, on the store that the script before it left, after bytes were put behind
 the closed gates of some cells, as a creation or a destruction that was interrupted leaves them. Its run is traced: strace
 tells each write of the file, with its bytes, and each sync. At each of these calls a crash may leave none of the writes
-since the last sync, all of them, or each alone; and of the last one its first half, or any bytes in its place. Each such
-image is put into a file, and a run on that has to tell the keys after the calls that were done by then or, within a call
-that changes the file, those after that one. It leaves exactly the cells of these keys, and zeros. First a store is made so,
-each image of which is none yet, or has no key.
+since the last sync, all of them, or each alone; and of the last one its first half, or any bytes in its place (of a file
+that was to be longer any length between, and any bytes behind its old end). Each such image is put into a file, and a run
+on that has to tell the keys after the calls that were done by then or, within a call that changes the file, those after
+that one. It leaves exactly the cells of these keys, and zeros. First a store is made so, each image of which is none yet,
+or has no key.
 
 It prints how many scripts, calls of the file and images there were, each image once. The status is 1 where keys are others.
 Where there is no strace nothing is tried.
@@ -19,13 +20,13 @@ Where there is no strace nothing is tried.
 import itertools
 import os
 import random
-import re
 import shutil
 import subprocess
 import sys
 
 sys.path.insert(0, os.path.join(os.path.dirname(os.path.realpath(__file__)), "reference"))
 
+from file_calls import calls_of_file, images_of, run_traced
 from program import program_of, require_same, scratch
 from runs import run_with_changes, text_of
 from service import Service
@@ -34,52 +35,6 @@ from store_file import CELL_LENGTH, image, place_of, require_file
 
 LINES, LEFT_OVER = 120, 3  # so many closed cells at most have bytes at first
 CALLS_OF_A_CHANGE = 4  # a write and a sync, of the body and of the gate
-NAMES = "lseek,write,pwrite64,fsync,fdatasync,ftruncate"
-ENDED = re.compile(r"\d+ +\+\+\+ .*")
-SEEK = re.compile(r"\d+ +lseek\(.*\) += (\d+)")
-WRITE = re.compile(r'\d+ +p?write(?:64)?\(\d+, "([0-9a-fx\\]*)", \d+(?:, (\d+))?\) += (\d+)')
-SYNC = re.compile(r"\d+ +f(?:data)?sync\(\d+\) += 0")
-LENGTH = re.compile(r"\d+ +ftruncate\(\d+, (\d+)\) += 0")
-
-
-def calls_of_file(traced):
-    """The writes of a file, as place and bytes, and its syncs, as None, in the order of a trace. A longer file ends by no bytes."""
-    place = 0
-    for line in traced:
-        line = line.strip()
-        if seek := SEEK.fullmatch(line):
-            place = int(seek[1])
-        elif write := WRITE.fullmatch(line):
-            at, piece = int(write[2] or place), bytes.fromhex(write[1].replace("\\x", ""))[: int(write[3])]
-            place = at + len(piece)
-            yield at, piece
-        elif length := LENGTH.fullmatch(line):
-            yield int(length[1]), b""
-        elif SYNC.fullmatch(line):
-            yield None
-        elif not ENDED.fullmatch(line):
-            raise ValueError(f"a call of the file that isn't known: {line[:200]}")
-
-
-def with_writes(content, writes):
-    """A file's bytes after some writes."""
-    whole = bytearray(content)
-    for at, piece in writes:
-        whole.extend(bytes(max(0, at + len(piece) - len(whole))))
-        whole[at : at + len(piece)] = piece
-    return bytes(whole)
-
-
-def left_by_crash(synced, pending, chosen):
-    """What a crash may leave, where these writes were made since the bytes were synced."""
-    yield with_writes(synced, ())
-    yield with_writes(synced, pending)
-    if pending:
-        at, piece = pending[-1]
-        yield with_writes(synced, [*pending[:-1], (at, piece[: len(piece) // 2])])
-        yield with_writes(synced, [*pending[:-1], (at, chosen.randbytes(len(piece)))])
-    if len(pending) > 1:
-        yield from (with_writes(synced, [write]) for write in pending)
 
 
 class Script:
@@ -107,15 +62,12 @@ class Trial:
 
     def traced(self, script):
         """The calls of the file that a script's run makes."""
-        trace = os.path.join(self.folder, "trace")
-        words = ["strace", "-f", "-P", self.store, "-xx", "-s", "1000000", "-e", f"trace={NAMES}", "-e", "signal=none"]
-        words += ["-o", trace, self.program, self.store, "run"]
-        ran = subprocess.run(words, input=text_of(script.lines), capture_output=True, text=True)
+        log = os.path.join(self.folder, "log")
+        ran = run_traced(self.program, self.store, text_of(script.lines), log)
         if ran.returncode or ran.stderr:
             raise ValueError(f"status {ran.returncode} {ran.stderr[:200]}")
         require_same(ran.stdout.splitlines(), script.replies)
-        with open(trace) as lines:
-            return list(calls_of_file(lines))
+        return list(calls_of_file(log))
 
     def told(self, content, script):
         """What a run on an image tells of all keys, or None where it is no store."""
@@ -138,21 +90,6 @@ class Trial:
                 return require_file(self.crashed, script.states[number])
         raise ValueError(f"the keys are those after none of {[*numbers]} changes")
 
-    def images_of(self, calls, synced):
-        """What crashes may leave at each call, with how many were made by then. What is met again stands once in a row."""
-        pending, seen = [], None
-        for count, call in enumerate(calls, 1):
-            if call is None:
-                synced, pending = with_writes(synced, pending), []
-            else:
-                pending.append(call)
-            for content in left_by_crash(synced, pending, self.chosen):
-                if (count, content) != seen:
-                    seen = count, content
-                    yield count, content
-        if pending:
-            raise ValueError("the file isn't synced in the end")
-
     def leave_bytes(self):
         """Puts bytes behind the gates of some closed cells, and gives of how many."""
         closed = [number for number, key in enumerate(self.cells) if key is None]
@@ -173,7 +110,7 @@ class Trial:
             pass
         script = Script([], self.cells)
         calls = self.traced(script)
-        for _, content in self.images_of(calls, b""):
+        for _, content in images_of(calls, b"", self.chosen):
             printed = self.told(content, script)
             if printed is not None and printed != script.telling(0).replies():
                 raise ValueError("a store that is made has keys")
@@ -187,7 +124,7 @@ class Trial:
         of_opening = len(calls) - CALLS_OF_A_CHANGE * changes
         if of_opening < 0 or of_opening - calls[:of_opening].count(None) != left:
             raise ValueError(f"{len(calls)} calls of the file for {left} cells with bytes and {changes} changes")
-        for count, content in self.images_of(calls, synced):
+        for count, content in images_of(calls, synced, self.chosen):
             done, within = divmod(max(count - of_opening, 0), CALLS_OF_A_CHANGE)
             self.open_image(content, script, range(done, done + 1 + (within > 0)))
         self.cells, self.calls = script.states[-1], self.calls + len(calls)

@@ -3,9 +3,17 @@
 
     tests/stores.py [PROGRAM]    the program is ./psa where none is named
 
+A store has one of two layouts: that of now, or the older one, whose file may be longer than its cells. What one is tried with
+the other is tried with too, where a file can differ.
+
 Files that are refused: status 5, the line on standard error, nothing on standard output, and the file as it was, byte for
 byte. Whatever stands before the opening is found first, and leaves the file too: words, standard input, and the script.
-Closed cells may hold anything: they are zeros once the store was opened, and the keys of the open ones are there.
+Closed cells may hold anything: they are zeros once the store was opened, and the keys of the open ones are there. A store of
+the older layout then has that of now, with these keys and no others.
+
+Each of the 256 values of the byte that tells the layout, in a file of either length; and each length at which a file of a
+layout is a store, or no longer one. Behind the cells of an older store stand bytes that count for nothing, cells with keys
+among them and such as are damaged.
 
 Each single bit of a store's header turned over, and each of a cell with a key: the file is refused, and stays as it was, or
 all other keys are what they were. The reference says which, and what that cell's key then is.
@@ -14,52 +22,81 @@ Files that can't be written past some length, since the system permits no larger
 ends with status 6. A creation or destruction that has to is STORAGE_FAILURE; its key is then gone, and so it is with each
 further one while the first key's cell can't be closed. A run without that limit has the other keys again.
 
-A file that the program wrote when policies had one algorithm, former.store.gz: its keys mean what they meant then.
+A file that the program wrote when policies had one algorithm, and stores the older layout, former.store.gz: its keys mean
+what they meant then.
 
 The status is 1 where the program answered otherwise.
 """
 
-import functools
 import gzip
 import multiprocessing.pool
 import os
-import resource
-import signal
-import subprocess
 import sys
 from dataclasses import replace
 
 sys.path.insert(0, os.path.join(os.path.dirname(os.path.realpath(__file__)), "reference"))
 
-from program import USAGE, program_of, scratch
-from runs import Line, Run, text_of
+from program import USAGE, program_of, run_limited, scratch
+from runs import asked, text_of
 from service import AES_KEY, CELL_COUNT, HMAC_KEY, OF_THE_ELEMENT, PERSISTENT, Key, Service
-from store_file import CELL_LENGTH, HEADER, KEY_AT, OPEN, RECORD_AT, cell, image, key_of, place_of
+from store_file import CELL_LENGTH, HEADER, KEY_AT, LAYOUT_AT, NO_STORE, OLDER_COUNT, OLDER_HEADER, OLDER_LENGTH, OPEN, RECORD_AT
+from store_file import STORE_LENGTH, cell, cells_in, image, older_image, opened, place_of, with_bytes
 
 RAW_DATA = 0x1001
 KEYS = [Key(PERSISTENT, place + 1, 0, RAW_DATA, 24, 1, (0, 0), bytes([place, 1, 2])) for place in range(6)]
-GOOD = image(KEYS + [None] * (CELL_COUNT - len(KEYS)))
-DAMAGED, LAST = 3, CELL_COUNT - 1
+GOOD, OLDER = image(KEYS), older_image(KEYS)
+# of both layouts, each by a name, a store of the keys and the number of its last cell
+LAYOUTS = (("", GOOD, CELL_COUNT - 1), ("an older store, ", OLDER, OLDER_COUNT - 1))
+DAMAGED = 3
 KEY = KEYS[DAMAGED]
 EXPORT = f"1 export #{KEY.identifier:x}\n"
 PARTS = 4  # so many runs at once, where there are many
+BAD_CELL = bytes([OPEN]) * CELL_LENGTH
 
 
-def with_bytes(whole, place, piece):
-    return whole[:place] + piece + whole[place + len(piece) :]
+def key_like(identifier):
+    """A key that may stand in any cell."""
+    return replace(KEY, identifier=identifier, data=bytes([identifier % 251, 3, 4]))
 
 
-def with_cell(place, bytes_of_cell):
-    return with_bytes(GOOD, place_of(place), bytes_of_cell)
+def with_cell(place, bytes_of_cell, store=GOOD):
+    return with_bytes(store, place_of(place), bytes_of_cell)
 
 
 def no_stores():
     """Files whose length or header is none of a store's, each by a name."""
-    for length in (1, 10, len(HEADER) - 1, len(HEADER), len(GOOD) - 1, len(GOOD) + 1, 4 * len(GOOD)):
-        yield f"{length} bytes", (GOOD + GOOD * 3)[:length]
-    for place, value in ((0, 0), (7, ord("e")), (8, 0), (8, 2), (9, 1), (len(HEADER) - 1, 255)):
-        yield f"a header with {value} at {place}", with_bytes(GOOD, place, bytes([value]))
-    yield "zeros", bytes(len(GOOD))
+    whole, older = GOOD + bytes(3 * len(GOOD)), OLDER + bytes(4 * len(GOOD))
+    for length in (1, 10, len(HEADER) - 1, len(HEADER), OLDER_LENGTH - 1, STORE_LENGTH + 1, 4 * STORE_LENGTH):
+        yield f"{length} bytes", whole[:length]
+        yield f"{length} bytes of an older store", older[:length]
+    for length in (OLDER_LENGTH, OLDER_LENGTH + 1, 600_000, STORE_LENGTH - 1):
+        yield f"{length} bytes", whole[:length]
+    for name, store, _ in LAYOUTS:
+        for place, value in ((0, 0), (7, ord("e")), (9, 1), (len(HEADER) - 1, 255)):
+            yield f"{name}a header with {value} at {place}", with_bytes(store, place, bytes([value]))
+        yield f"{name}zeros", bytes(len(store))
+
+
+def bytes_behind(count):
+    """What may stand behind the cells of an older store, by a name; each has at least one byte."""
+    yield "a5", b"\xa5" * count
+    yield "any bytes", os.urandom(count)
+    for name, key in (("one key over and over", key_like(77)), ("a key that is there", KEY), ("other keys", None)):
+        cells = [key or key_like(1000 + number) for number in range(CELL_COUNT - OLDER_COUNT)]
+        yield name, b"".join(map(cell, cells)).ljust(count, b"\0")[:count]
+
+
+def older_stores():
+    """Files of the older layout, each by a name; and some that aren't quite, of its lengths."""
+    for value in range(256):
+        header = with_bytes(HEADER, LAYOUT_AT, bytes([value]))
+        yield f"a layout of {value}", older_image(KEYS, header=header)
+        # of the layout of now such a file has keys in all its cells
+        behind = b"".join(cell(key_like(number)) for number in range(OLDER_COUNT + 1, CELL_COUNT + 1))
+        yield f"a layout of {value} in a long file", older_image(KEYS, behind, header)
+    for length in (OLDER_LENGTH + 1, OLDER_LENGTH + CELL_LENGTH, 600_000, 2 * OLDER_LENGTH, STORE_LENGTH - 1, STORE_LENGTH):
+        for name, behind in bytes_behind(length - OLDER_LENGTH):
+            yield f"an older store of {length} bytes, {name} behind its cells", older_image(KEYS, behind)
 
 
 def damages():
@@ -170,11 +207,6 @@ FORMER = (
 )
 
 
-def permit_no_larger_files(length):
-    signal.signal(signal.SIGXFSZ, signal.SIG_IGN)  # so that a write fails and doesn't end the program
-    resource.setrlimit(resource.RLIMIT_FSIZE, (length, length))
-
-
 class Trial:
     """The program, and a file that it opens."""
 
@@ -188,9 +220,7 @@ class Trial:
     def run(self, words, script, limit=None):
         """Status and outputs of the program on the file, which may have a limit."""
         self.count += 1
-        words, limits = [self.program, self.path, *words], limit and functools.partial(permit_no_larger_files, limit)
-        ran = subprocess.run(words, input=script, capture_output=True, text=True, preexec_fn=limits, restore_signals=False)
-        return ran.returncode, ran.stdout, ran.stderr
+        return run_limited(self.program, self.path, words, script, limit)
 
     def put(self, content):
         with open(self.path, "wb") as file:
@@ -223,77 +253,85 @@ def refused(status, line):
 def try_refusals(trial):
     damaged = refused(5, f"damaged cell {DAMAGED}")
     for name, content in no_stores():
-        trial.open(name, content, refused(5, "not a store"))
-    for name, bytes_of_cell in damages():
-        trial.open(name, with_cell(DAMAGED, bytes_of_cell), damaged)
-
-    bad = bytes([OPEN]) * CELL_LENGTH
-    trial.open("the last cell", with_cell(LAST, bad), refused(5, f"damaged cell {LAST}"))
-    trial.open("two cells", with_bytes(with_cell(LAST, bad), place_of(DAMAGED), bad), damaged)
+        trial.open(name, content, refused(5, NO_STORE))
+    for layout, store, last in LAYOUTS:
+        for name, bytes_of_cell in damages():
+            trial.open(layout + name, with_cell(DAMAGED, bytes_of_cell, store), damaged)
+        trial.open(f"{layout}the last cell", with_cell(last, BAD_CELL, store), refused(5, f"damaged cell {last}"))
+        two = with_cell(DAMAGED, BAD_CELL, with_cell(last, BAD_CELL, store))
+        trial.open(f"{layout}two cells", two, damaged)
+    beyond = with_cell(OLDER_COUNT, BAD_CELL)
+    trial.open("a cell that an older store hasn't", beyond, refused(5, f"damaged cell {OLDER_COUNT}"))
+    same = with_cell(CELL_COUNT - 1, cell(KEY))
+    trial.open("the same identifier in the last cell", same, refused(5, f"damaged cell {CELL_COUNT - 1}"))
+    longer = with_cell(DAMAGED, BAD_CELL, older_image(KEYS, b"\xa5" * 1000))
+    trial.open("an older store with bytes behind its cells, a damaged cell", longer, damaged)
     for name, content, of_opening in (
-        ("a damaged cell", with_cell(DAMAGED, bad), damaged),
-        ("no store", GOOD[:10], refused(5, "not a store")),
+        ("a damaged cell", with_cell(DAMAGED, BAD_CELL), damaged),
+        ("no store", GOOD[:10], refused(5, NO_STORE)),
     ):
         trial.open(f"{name}, generate", content, of_opening, words=("generate", "4"))
         trial.open(f"{name}, no script", content, of_opening, script="")
+    for name, content in (
+        ("a damaged cell", with_cell(DAMAGED, BAD_CELL)),
+        ("no store", GOOD[:10]),
+        ("an older store", OLDER),
+        ("an older store with bytes behind its cells", older_image(KEYS, b"\xa5" * 1000)),
+    ):
         trial.open(f"{name}, wrong words", content, refused(1, USAGE), words=("run", "run"))
         trial.open(f"{name}, a bad line", content, refused(2, "line 1: unknown command"), script="1 frob\n")
 
 
 def try_openings(trial):
-    for name, bytes_of_cell, key in cells_that_open():
-        reply = f"SUCCESS {key.data.hex()}" if key else "INVALID_HANDLE"
-        script = EXPORT.replace(f"{KEY.identifier:x}", f"{key.identifier:x}") if key else EXPORT
-        after = with_cell(DAMAGED, cell(key))
-        trial.open(name, with_cell(DAMAGED, bytes_of_cell), (0, f"1.1 @0 {reply}\n", ""), after, script=script)
+    for layout, store, _ in LAYOUTS:
+        for name, bytes_of_cell, key in cells_that_open():
+            reply = f"SUCCESS {key.data.hex()}" if key else "INVALID_HANDLE"
+            script = EXPORT.replace(f"{KEY.identifier:x}", f"{key.identifier:x}") if key else EXPORT
+            content, after = with_cell(DAMAGED, bytes_of_cell, store), with_cell(DAMAGED, cell(key))
+            trial.open(layout + name, content, (0, f"1.1 @0 {reply}\n", ""), after, script=script)
 
 
-def opened_with(bytes_of_cell):
-    """The keys of a store that has these bytes in the damaged cell, or the line that refuses it."""
-    if bytes_of_cell[0] != OPEN:
-        return [None if key is KEY else key for key in KEYS]
-    key = key_of(bytes_of_cell)
-    same = [place for place, other in enumerate(KEYS) if key and other is not KEY and other.identifier == key.identifier]
-    if key is None or same:
-        return f"damaged cell {max(DAMAGED, *same, 0)}"
-    return [key if other is KEY else other for other in KEYS]
+def try_opening(trial, name, content, more=()):
+    """Opens a file as the reference does, and asks for its keys, those of the good store, and some more; whether it opens."""
+    cells = opened(content)
+    if isinstance(cells, str):
+        trial.open(name, content, refused(5, cells))
+        return False
+    run = asked(Service(cells), sorted({key.identifier for key in (*KEYS, *filter(None, cells))} | set(more)))
+    replies = "".join(f"{reply}\n" for reply in run.replies())
+    trial.open(name, content, (0, replies, ""), image(cells), script=text_of(run.lines))
+    return True
 
 
-def told_of(keys):
-    """The lines that ask for the keys of a store, and for those of the good one, and the replies to them."""
-    run = Run(Service(keys + [None] * (CELL_COUNT - len(keys))))
-    for identifier in sorted({key.identifier for key in (*KEYS, *filter(None, keys))}):
-        for command in ("attributes", "export"):
-            run.make(Line(1, command, [("key", f"#{identifier:x}")], {}))
-    return text_of(run.lines), "".join(f"{reply}\n" for reply in run.replies())
+def try_layouts(trial):
+    """Prints how many files there were, and how many of them were opened as stores of each layout."""
+    count, cells = 0, []
+    for name, content in older_stores():
+        count += 1
+        if try_opening(trial, name, content, (77, OLDER_COUNT + 1, 1000, CELL_COUNT)):
+            cells.append(cells_in(content))
+    older = cells.count(OLDER_COUNT)
+    print(f"stores: {count} files of either layout by length and header, {older} of them older, {len(cells) - older} of now")
 
 
-def try_bits(trial, places):
+def try_bits(trial, store, places):
     """Turns each bit of these places over; gives how many such files are opened."""
-    count = 0
-    for place, bit in ((place, bit) for place in places for bit in range(8)):
-        content = with_bytes(GOOD, place, bytes([GOOD[place] ^ 1 << bit]))
-        at = place_of(DAMAGED)
-        opened = "not a store" if place < len(HEADER) else opened_with(content[at : at + CELL_LENGTH])
-        name = f"bit {bit} of byte {place}"
-        if isinstance(opened, str):
-            trial.open(name, content, refused(5, opened))
-        else:
-            script, replies = told_of(opened)
-            trial.open(name, content, (0, replies, ""), with_cell(DAMAGED, cell(opened[DAMAGED])), script=script)
-            count += 1
-    return count
+    turned = lambda place, bit: with_bytes(store, place, bytes([store[place] ^ 1 << bit]))
+    named = ((f"bit {bit} of byte {place}", turned(place, bit)) for place in places for bit in range(8))
+    return sum(try_opening(trial, name, content) for name, content in named)
 
 
 def try_all_bits(program, folder):
-    """The same of all bits of the header and of a cell, by several at once; gives how many runs there were, and failures."""
+    """The same of all bits of the header of each layout and of a cell, by several at once; how many runs there were, and
+    whether one failed."""
     in_cell = range(place_of(DAMAGED), place_of(DAMAGED + 1))
-    parts = [range(len(HEADER)), *(in_cell[part::PARTS] for part in range(PARTS))]
+    parts = [(store, range(len(HEADER))) for store in (GOOD, OLDER, older_image(KEYS, bytes(STORE_LENGTH - OLDER_LENGTH)))]
+    parts += [(GOOD, in_cell[part::PARTS]) for part in range(PARTS)]
     trials = [Trial(program, os.path.join(folder, f"store{number}")) for number in range(len(parts))]
     with multiprocessing.pool.ThreadPool(PARTS) as pool:
-        opened = sum(pool.starmap(try_bits, zip(trials, parts)))
+        opened_so = sum(pool.starmap(try_bits, [(trial, *part) for trial, part in zip(trials, parts)]))
     count = sum(trial.count for trial in trials)
-    print(f"stores: {count} files with a bit turned over, {opened} of them opened")
+    print(f"stores: {count} files with a bit turned over, {opened_so} of them opened")
     return count, any(trial.has_failed for trial in trials)
 
 
@@ -301,8 +339,9 @@ def try_failing_writes(trial):
     limit = place_of(DAMAGED)
     fault = refused(6, "disk fault")
     trial.open("a file that can't be extended", b"", fault, limit=limit)
-    trial.open("a cell that can't be cleared", with_cell(LAST, b"\0\1"), fault, limit=limit)
-    trial.put(image(KEYS[:DAMAGED] + [None] * (CELL_COUNT - DAMAGED)))
+    for layout, store, last in LAYOUTS:
+        trial.open(f"{layout}a cell that can't be cleared", with_cell(last, b"\0\1", store), fault, limit=limit)
+    trial.put(image(KEYS[:DAMAGED]))
     trial.answer("writes that fail", FAILING, limit)
     trial.answer("after writes that failed", AFTERWARDS)
 
@@ -310,11 +349,16 @@ def try_failing_writes(trial):
 def try_former_file(trial):
     with gzip.open(os.path.join(os.path.dirname(os.path.realpath(__file__)), "former.store.gz")) as file:
         former = file.read()
+    name = "a file with one algorithm in each policy"
+    if len(former) != OLDER_LENGTH or not former.startswith(OLDER_HEADER):
+        trial.fail(f"{name} is none of the older layout")
+    # it grows in the first of the two runs
     trial.put(former)
-    trial.answer("a file with one algorithm in each policy", FORMER)
-    with open(trial.path, "rb") as file:
-        if file.read() != former:
-            trial.fail("a file with one algorithm in each policy has changed")
+    for _ in range(2):
+        trial.answer(name, FORMER)
+        with open(trial.path, "rb") as file:
+            if file.read() != image(opened(former)):
+                trial.fail(f"{name} has lost a key")
 
 
 def main():
@@ -322,6 +366,7 @@ def main():
         trial = Trial(program_of(sys.argv), os.path.join(folder, "store"))
         try_refusals(trial)
         try_openings(trial)
+        try_layouts(trial)
         try_failing_writes(trial)
         try_former_file(trial)
         count, has_failed = try_all_bits(trial.program, folder)

@@ -1,6 +1,9 @@
 """The program that is compared, and the words that it is run by."""
 
+import functools
 import os
+import resource
+import signal
 import subprocess
 import tempfile
 
@@ -41,6 +44,19 @@ def run_script(program, store, text, words=()):
     if ran.returncode or ran.stderr:
         raise ValueError(f"status {ran.returncode} {ran.stderr[:200]}")
     return ran.stdout.splitlines()
+
+
+def permit_no_larger_files(length):
+    signal.signal(signal.SIGXFSZ, signal.SIG_IGN)  # so that a write fails and doesn't end the program
+    resource.setrlimit(resource.RLIMIT_FSIZE, (length, length))
+
+
+def run_limited(program, store, words, text, limit=None):
+    """Status and outputs of the program, for which no file may get longer than a limit, if there is one."""
+    limits = limit and functools.partial(permit_no_larger_files, limit)
+    words, how = [program, store, *words], {"capture_output": True, "text": True, "restore_signals": False}
+    ran = subprocess.run(words, input=text, preexec_fn=limits, **how)
+    return ran.returncode, ran.stdout, ran.stderr
 
 
 def require_same(printed, wanted):

@@ -109,6 +109,15 @@ def replayed(lines, printed, service):
     return run
 
 
+def asked(service, identifiers):
+    """A run of one session that asks a service for the attributes and the bytes of the keys under these identifiers."""
+    run = Run(service)
+    for identifier in identifiers:
+        for command in ("attributes", "export"):
+            run.make(Line(1, command, [("key", f"#{identifier:x}")], {}))
+    return run
+
+
 def run_with_changes(lines, service):
     """A run of these lines in their order; and what stands in the store's cells at first and after each change of them."""
     run, states = Run(service), [list(service.cells)]

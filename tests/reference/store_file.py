@@ -4,12 +4,16 @@ import struct
 
 from service import AES_KEY, CELL_COUNT, LAST_PERSISTENT, PERSISTENT, SIGN, SIGN_HASH, TYPES, USAGES, VERIFY, VERIFY_HASH, Key
 
-HEADER = b"PSASTORE\1" + bytes(55)
+NAME, CURRENT, LAYOUT_AT = b"PSASTORE", 2, 8
+HEADER = NAME + bytes([CURRENT]) + bytes(55)
 CELL_LENGTH = 1088
 STORE_LENGTH = len(HEADER) + CELL_COUNT * CELL_LENGTH
+OLDER_HEADER, OLDER_COUNT = NAME + b"\1" + bytes(55), 512  # of the older layout, as it was written
+OLDER_LENGTH = len(HEADER) + OLDER_COUNT * CELL_LENGTH
 OPEN = 0xA5
 RECORD_AT, KEY_AT = 16, 52  # in a cell
 MAGIC, RECORD = b"PSA\0KEY\0", struct.Struct("<8sIIHHIIII")
+NO_STORE = "not a store"
 
 
 def place_of(number):
@@ -43,8 +47,47 @@ def key_of(bytes_of_cell):
     return key if is_key and cell(key) == bytes_of_cell else None
 
 
+def with_bytes(whole, place, piece):
+    return whole[:place] + piece + whole[place + len(piece) :]
+
+
+def padded(cells):
+    """The cells of a store whose first cells are these, and in which no other has a key."""
+    return [*cells, *[None] * (CELL_COUNT - len(cells))]
+
+
 def image(cells):
-    return HEADER + b"".join(map(cell, cells))
+    """The file of a store whose first cells are these."""
+    return HEADER + b"".join(map(cell, padded(cells)))
+
+
+def older_image(cells, behind=b"", header=OLDER_HEADER):
+    """The file of a store of the older layout whose first cells are these, with these bytes behind its cells."""
+    return header + b"".join(map(cell, cells)).ljust(OLDER_LENGTH - len(header), b"\0") + behind
+
+
+def cells_in(content):
+    """How many cells a file has, by its header and its length; or None where it is no store."""
+    header = content[: len(HEADER)]
+    if len(header) < len(HEADER) or not header.startswith(NAME) or any(header[LAYOUT_AT + 1 :]):
+        return None
+    if header[LAYOUT_AT] == CURRENT:
+        return CELL_COUNT if len(content) == STORE_LENGTH else None
+    return OLDER_COUNT if OLDER_LENGTH <= len(content) <= STORE_LENGTH else None
+
+
+def opened(content):
+    """What an opening finds in the cells of a file, or the line that refuses it."""
+    cells, found = [], set()
+    for number in range(cells_in(content) or 0):
+        at, key = place_of(number), None
+        if content[at] == OPEN:
+            key = key_of(content[at : at + CELL_LENGTH])
+            if key is None or key.identifier in found:
+                return f"damaged cell {number}"
+            found.add(key.identifier)
+        cells.append(key)
+    return padded(cells) if cells else NO_STORE
 
 
 def cells_of_file(path):
@@ -57,6 +100,7 @@ def cells_of_file(path):
 
 
 def require_file(path, cells):
-    """Raises a ValueError where the cells of a store's file aren't those of these keys."""
-    if cells_of_file(path) != [*map(cell, cells)]:
-        raise ValueError("the store's file is another one")
+    """Raises a ValueError where a store's file isn't that of these cells."""
+    with open(path, "rb") as file:
+        if file.read() != image(cells):
+            raise ValueError("the store's file is another one")
