@@ -7,7 +7,8 @@ A command runs with its first call for memory refused, then with its second, and
 run ends with status 7, `out of memory` and a beginning of the output, or as it does where nothing is refused. Its store then
 has the keys after some first calls of the script (with several workers, each key whole), or after all of them, and nothing
 else in its cells; a store that was to be made may also be none yet. The commands are a script at random with 1 and with 16
-workers, on a new store and on one with keys, and the generator.
+workers, on a new store and on one with keys, the generator, and an empty script on a store of the older layout with bytes
+behind its cells, which the run makes larger.
 
 ./check doesn't run this: it takes a C compiler, and minutes. It prints how many calls were refused, and how many of these
 runs ended with status 7. The status is 1 where one ended otherwise.
@@ -24,7 +25,7 @@ from program import program_of, require_same, scratch
 from runs import replayed, run_with_changes, text_of
 from scripts import Mix, Script
 from service import Service
-from store_file import cell, cells_of_file, image, key_of
+from store_file import OLDER_COUNT, cell, cells_of_file, image, key_of, older_image
 
 HERE = os.path.dirname(os.path.realpath(__file__))
 LINES, MISSES = 200, 8  # after so many numbers in a row of calls that don't come there is none
@@ -33,10 +34,11 @@ OUT_OF_MEMORY = "out of memory\n"
 
 
 class Command:
-    """A command, what its store has at first, and the calls that it makes, if the test knows them."""
+    """A command, what its store and its file have at first, and the calls that it makes, if the test knows them."""
 
-    def __init__(self, name, words, cells=None, lines=()):
+    def __init__(self, name, words, cells=None, lines=(), content=None):
         self.name, self.words, self.cells, self.lines = name, words, cells, lines
+        self.content = content or (image(cells) if cells else b"")
         self.is_in_order = words[-1] == "1" or not lines
         run, self.states = run_with_changes(lines, self.service())
         self.replies = run.replies()
@@ -77,9 +79,9 @@ class Trial:
 
     def run(self, command, number):
         """Whether that call for memory came, and how the command ended."""
-        if command.cells:
+        if command.content:
             with open(self.store, "wb") as file:
-                file.write(image(command.cells))
+                file.write(command.content)
         elif os.path.exists(self.store):
             os.unlink(self.store)
         told, tells = os.pipe()
@@ -138,6 +140,8 @@ def commands():
         for workers in ("1", "16"):
             words = ["run", "--seed", "0" * 64, "--workers", workers]
             yield Command(f"{name}, {workers} workers", words, cells, script.run.lines)
+    older = older_image(cells[:OLDER_COUNT], b"\xa5" * 100_000)
+    yield Command("an older store", ["run", "--workers", "1"], cells, content=older)
     yield Command("the generator", ["generate", "200"])
 
 
