@@ -5,13 +5,14 @@
 
 The older stores have keys, none, or one in each cell; bytes behind closed gates, which a creation or a destruction that was
 interrupted leaves; and files that are longer than their cells, with cells that have keys among the bytes behind. A run of an
-empty script leaves the file of a store of the layout of now with the older cells, byte for byte, and zeros: its length, the
-byte of the layout, and all others. A later run tells exactly the keys of the older store, and writes nothing.
+empty script, or of the generator, leaves the file of a store of the layout of now with the older cells, byte for byte, and
+zeros: its length, the byte of the layout, and all others. A later run tells exactly the keys of the older store, and writes
+nothing.
 
-Each of these runs is traced: strace tells each write of the file, with its bytes, and each sync, and these have to be those
-of a growth, in its order. At each of them a crash may leave what tests/crashes.py says, and of the byte of the layout any of
-256 values. A run on each such image tells exactly the keys of the older store, and leaves the same file as the first run
-did. So it is where this second opening is stopped too.
+A run of an empty script is traced: strace tells each write of the file, with its bytes, and each sync, and these have to be
+those of a growth, in its order. At each of them a crash may leave what tests/crashes.py says, and of the byte of the layout
+any of 256 values. A run on each such image tells exactly the keys of the older store, and leaves the same file as the first
+run did. So it is where this second opening is stopped too.
 
 Each single call that an opening makes of the file fails once, alone and with all later ones of its kind, where strace refuses
 it; and writes fail where the system permits no longer files, or the disk is full. Such a run ends with status 6 and `disk
@@ -150,12 +151,14 @@ class Trial:
         return list(calls_of_file(self.log))
 
     def grow(self, growth):
-        """An empty script, and then a run that tells all keys."""
-        self.put(growth.content)
-        if run_script(self.program, self.store, ""):
-            raise ValueError("an empty script has replies")
-        self.require_grown(growth, "an empty script")
-        self.require_keys(growth, "after an empty script")
+        """Runs that change no key, and then one that tells all keys."""
+        for words in (["run"], ["run", "--workers", "16"], ["generate", "4"]):
+            self.put(growth.content)
+            status, out, err = run_limited(self.program, self.store, words, "")
+            if status or err or bool(out) != (words[0] == "generate"):
+                raise ValueError(f"{words}: status {status}, {out[:200]}, {err[:200]}")
+            self.require_grown(growth, words)
+            self.require_keys(growth, f"after {words}")
         self.stores += 1
 
     def stop(self, growth):
