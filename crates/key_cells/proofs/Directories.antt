@@ -1,10 +1,10 @@
 -- What keeps a directory: its row of open cells, and its counts.
 use Rattle.key_cells.proofs.Common.{[], ap, arith, Bool, cases_eq, cases_lt, cell_count, cell_state, CellState, cond, count_by, drop, eq-eqb, false, Free, get_or, get_or-replicate, get_or-set_other, get_or-set_same, has_id, HasNoKey, HasOneEach, is_open, length, length-replicate, length-set, List, Open, refl, replicate, set, settled_state, settled_states, Shut, subst, suc, sum_by-cons, sym, true, Unsure, zero, ℕ, ⊎_elim, ◌*◌, ◌+◌, ◌-◌, ◌<◌, ◌==◌, ◌^◌, ◌∙◌, ◌∷◌, ◌≡◌, ◌≢◌, ◌≤◌, ◌⊎◌}
 use Rattle.std.proofs.{lemmas.Bool.ne_eqb, lemmas.List.get_or_past, lemmas.List.Recursion.is_count_by, lemmas.List.Sorted.IsPermutation-sym, lemmas.List.Sorted.length_permutation, lemmas.List.Sorted.sum_by-IsPermutation, lemmas.List.Sums.count_by-le-length, lemmas.List.Sums.get_or-le-sum_by, lemmas.List.Sums.sum_by-set, lemmas.Bool.Decides.nat_tests}
-use Rattle.std.specs.{List.sum_by, Prelude.◌/◌}
+use Rattle.std.specs.{List.sum_by, Prelude.MatchOption, Prelude.None, Prelude.Option, Prelude.Some, Prelude.is_some, Prelude.◌/◌}
 use Rattle.key_index.specs.{Index.is_between, Index.IsAlone, Index.IsIndexOf, Index.entries_of, declared.index.Entry.Entry}
 use Rattle.key_index.proofs.Changes.{index_gains, index_loses, index_same}
-use Rattle.key_cells.specs.{Directory.AreIndexed, Directory.HasBeside, Directory.has_id_by, Directory.is_in_doubt, Directory.is_of_range}
+use Rattle.key_cells.specs.{Directory.AreIndexed, Directory.HasBeside, Directory.IsFirstOfGroup, Directory.IsFullGroup, Directory.has_id_by, Directory.is_in_doubt, Directory.is_of_range}
 
 -- a state has no identifier beside that of its key
 pub no_id_shut : (id : ℕ) (state : CellState) → is_open state ≡ false → has_id id state ≡ false
@@ -101,8 +101,8 @@ has_none : (states : List CellState) (id cell : ℕ) → HasNoKey states id → 
 has_none states id cell none = ⊎_elim (λ within. none cell within) (λ past. ap (has_id id) (get_or_past states cell Free past)) (cases_lt cell (length states))
 
 -- the key of a cell stands in the row once
-pub kept_alone : (states : List CellState) (entries : List Entry) (first left cell : ℕ) → AreIndexed states entries first left → cell < cell_count → (id : ℕ) → has_id id (cell_state states cell) ≡ true → IsAlone id cell entries
-kept_alone states entries first left cell kept within id has i = kept.index id i ∙ ap (λ b. cond b 1 0) (⊎_elim
+pub kept_alone : (states : List CellState) (entries : List Entry) (full : List Bool) (left cell : ℕ) → AreIndexed states entries full left → cell < cell_count → (id : ℕ) → has_id id (cell_state states cell) ≡ true → IsAlone id cell entries
+kept_alone states entries full left cell kept within id has i = kept.index id i ∙ ap (λ b. cond b 1 0) (⊎_elim
     (λ same. rw same (has ∙ sym (eq-eqb cell cell refl)))
     (λ other. by_test (has_id id (cell_state states i)) refl other ∙ sym (ne_eqb i cell other))
     (cases_eq i cell))
@@ -111,13 +111,22 @@ kept_alone states entries first left cell kept within id has i = kept.index id i
     by_test true has_i other = absurd (other (kept.once id i cell (has_within states id i kept.sized has_i) within has_i has))
     by_test false has_i other = refl
 
-pub kept_some : (states : List CellState) (entries : List Entry) (first left cell : ℕ) → AreIndexed states entries first left → cell < cell_count → is_in_doubt (cell_state states cell) ≡ true → 0 < left
-kept_some states entries first left cell kept within is =
+pub kept_some : (states : List CellState) (entries : List Entry) (full : List Bool) (left cell : ℕ) → AreIndexed states entries full left → cell < cell_count → is_in_doubt (cell_state states cell) ≡ true → 0 < left
+kept_some states entries full left cell kept within is =
     let one : cond {A = ℕ} (is_in_doubt (cell_state states cell)) 1 0 ≡ 1 = ap (λ b. cond b 1 0) is in
     omega (arith, at_most is_in_doubt states cell (omega (arith, kept.sized, within)), one, kept.in_doubt)
 
+-- the group of a cell
+pub group_of : (cell group : ℕ) → 64 * group ≤ cell → cell < 64 * group + 64 → group ≡ cell / 64
+group_of cell group low high = grind (arith, nat_tests, low, high)
+
+-- a group in which no cell was found that isn't open
+pub whole_of : (found : Option ℕ) (states : List CellState) (group : ℕ) → MatchOption found (IsFullGroup states group) (λ cell. IsFirstOfGroup states group cell) → is_some found ≡ false → IsFullGroup states group
+whole_of None states group whole none = whole
+whole_of (Some cell) states group first none = cc
+
 -- what is left of a row and a count once a cell was taken out of them
-module _ (states : List CellState) (entries middle : List Entry) (first left less cell : ℕ) (kept : AreIndexed states entries first left) (within : cell < cell_count) (out : HasBeside (cell_state states cell) cell entries middle left less) where
+module _ (states : List CellState) (entries middle : List Entry) (groups : List Bool) (left less cell : ℕ) (kept : AreIndexed states entries groups left) (within : cell < cell_count) (out : HasBeside (cell_state states cell) cell entries middle left less) where
   there : cell < length states
   there = omega (arith, kept.sized, within)
 
@@ -143,8 +152,8 @@ module _ (states : List CellState) (entries middle : List Entry) (first left les
     by_test true = refl
     by_test false = has_none states id i none
 
-  module _ (state : CellState) (more : List Entry) (first' left' : ℕ) (new : (id : ℕ) → has_id id state ≡ true → HasNoKey states id) (put : HasBeside state cell more middle left' less)
-      (moved : (k : ℕ) → k < first' → ((k < first) × (k ≢ cell)) ⊎ ((k ≡ cell) × (is_open state ≡ true))) where
+  module _ (state : CellState) (more : List Entry) (flag : Bool) (left' : ℕ) (new : (id : ℕ) → has_id id state ≡ true → HasNoKey states id) (put : HasBeside state cell more middle left' less)
+      (whole : flag ≡ true → IsFullGroup (set states cell state) (cell / 64)) where
     here : cell_state (set states cell state) cell ≡ state
     here = get_or-set_same states cell state Free there
 
@@ -179,32 +188,45 @@ module _ (states : List CellState) (entries middle : List Entry) (first left les
         clash : (k : ℕ) → k ≢ cell → has_id id state ≡ true → has_id id (cell_state (set states cell state) k) ≡ true → ⊥
         clash k differs at_cell there_too = let e : false ≡ true = sym (has_none states id k (new id at_cell)) ∙ at_old k differs there_too in cc
 
-    pub kept_set : AreIndexed (set states cell state) more first' left'
+    set_groups : (group : ℕ) → get_or (set groups (cell / 64) flag) group false ≡ true → IsFullGroup (set states cell state) group
+    set_groups group is = ⊎_elim
+        (λ same. rw same (whole (told (rw same at is))))
+        (λ differs k low high. ap is_open (elsewhere k (λ at. differs (group_of k group low high ∙ ap (λ (n : ℕ). n / 64) at)))
+        ∙ kept.groups group (sym (get_or-set_other groups (cell / 64) group flag false differs) ∙ is) k low high)
+        (cases_eq group (cell / 64))
+      where
+        told : get_or (set groups (cell / 64) flag) (cell / 64) false ≡ true → flag ≡ true
+        told is = ⊎_elim
+            (λ few. sym (get_or-set_same groups (cell / 64) flag false few) ∙ is)
+            (λ past. let none : false ≡ true = sym (get_or_past (set groups (cell / 64) flag) (cell / 64) false (omega (arith, length-set groups (cell / 64) flag, past))) ∙ is in cc)
+            (cases_lt (cell / 64) (length groups))
+
+    pub kept_set : AreIndexed (set states cell state) more (set groups (cell / 64) flag) left'
     kept_set = record {
       sized = full state;
       index = set_index;
       once = set_once;
       counted = omega (arith, beside_length state cell more middle left' less put, beside_length (cell_state states cell) cell entries middle left less out, count_set is_open states cell state there, kept.counted);
       passing = λ passes. omega (arith, beside_passing passes state cell more middle left' less put, beside_passing passes (cell_state states cell) cell entries middle left less out, count_set (has_id_by passes) states cell state there, kept.passing passes);
-      before = λ k less_k. ⊎_elim
-          (λ old. ap is_open (elsewhere k old.1) ∙ kept.before k old.0)
-          (λ is. rw is.0 (ap is_open here ∙ is.1))
-          (moved k less_k);
+      groups = set_groups;
       in_doubt = omega (arith, beside_left state cell more middle left' less put, beside_left (cell_state states cell) cell entries middle left less out, count_set is_in_doubt states cell state there, kept.in_doubt);
     }
 
-pub kept_start : (n : ℕ) → n ≡ cell_count → AreIndexed (replicate n Free) [] 0 0
+pub kept_start : (n : ℕ) → n ≡ cell_count → AreIndexed (replicate n Free) [] (replicate 32 false) 0
 kept_start n is = record {
   sized = length-replicate n Free ∙ is;
   index = λ id k. ap (λ b. cond b 1 0) (sym (ap (has_id id) (free_at k)));
   once = λ id one other one_within other_within has. absurd (let e : false ≡ true = ap (has_id id) (sym (free_at one)) ∙ has in cc);
   counted = sym (none_of is_open refl n);
   passing = λ passes. sym (none_of (has_id_by passes) refl n);
-  before = λ k lt. absurd (omega (arith, lt));
+  groups = λ group full. absurd (let none : false ≡ true = sym (no_group group) ∙ full in cc);
   in_doubt = sym (none_of is_in_doubt refl n);
 } where
   free_at : (k : ℕ) → cell_state (replicate n Free) k ≡ Free
   free_at k = ⊎_elim (λ within. get_or-replicate n k Free Free within) (λ past. get_or_past (replicate n Free) k Free (omega (arith, length-replicate n Free, past))) (cases_lt k n)
+
+  no_group : (group : ℕ) → get_or (replicate 32 false) group false ≡ false
+  no_group group = ⊎_elim (λ within. get_or-replicate 32 group false false within) (λ past. get_or_past (replicate 32 false) group false (omega (arith, length-replicate 32 false, past))) (cases_lt group 32)
 
   none_of : (p : CellState → Bool) → p Free ≡ false → (m : ℕ) → count_by p (replicate m Free) ≡ 0
   none_of p not_free zero = refl

@@ -1,5 +1,5 @@
 -- What the directory in memory keeps beside the states of the cells.
-use Rattle.std.specs.{Prelude.◌≡◌, Prelude.◌<◌, Prelude.◌+◌, Prelude.◌/◌, Prelude.◌^◌, Prelude.◌==◌, Prelude.ℕ, Prelude.Bool, Prelude.true, Prelude.false, Prelude.List, Prelude.◌∷◌, Prelude.length, Prelude.count_by, Prelude.cond, List.Sorted.IsPermutation}
+use Rattle.std.specs.{Prelude.◌≡◌, Prelude.◌<◌, Prelude.◌≤◌, Prelude.◌+◌, Prelude.◌*◌, Prelude.◌/◌, Prelude.◌^◌, Prelude.◌==◌, Prelude.ℕ, Prelude.Bool, Prelude.true, Prelude.false, Prelude.List, Prelude.◌∷◌, Prelude.length, Prelude.get_or, Prelude.count_by, Prelude.cond, List.Sorted.IsPermutation}
 use Rattle.key_index.specs.{Index.IsIndexOf, declared.index.Entry.Entry}
 use Rattle.key_cells.specs.{declared.state.CellState.CellState, declared.state.CellState.TheVariants.Open, declared.state.CellState.TheVariants.Shut, declared.state.CellState.TheVariants.Unsure, Layout.cell_count, Contents.cell_state, Contents.has_id, Contents.is_open, Opening.HasOneEach}
 
@@ -18,14 +18,25 @@ has_id_by passes _ = false
 abbrev pub is_of_range : ℕ → CellState → Bool
 is_of_range range state = has_id_by (λ id. id / 2 ^ 26 == range) state
 
--- a row has each open cell by the identifier of its key, each cell before this one is open, and so many are in doubt
-pub record AreIndexed (states : List CellState) (entries : List Entry) (first left : ℕ) : Type 0 where
+-- Cells are in groups of 64. Each cell of one is open.
+abbrev pub IsFullGroup : List CellState → ℕ → Type 0
+IsFullGroup states group = (cell : ℕ) → 64 * group ≤ cell → cell < 64 * group + 64 → is_open (cell_state states cell) ≡ true
+
+-- the first cell of a group that isn't
+pub record IsFirstOfGroup (states : List CellState) (group cell : ℕ) : Type 0 where
+  pub from : 64 * group ≤ cell
+  pub within : cell < 64 * group + 64
+  pub here : is_open (cell_state states cell) ≡ false
+  pub before : (other : ℕ) → 64 * group ≤ other → other < cell → is_open (cell_state states other) ≡ true
+
+-- a row has each open cell by the identifier of its key, these groups have no other cells, and so many are in doubt
+pub record AreIndexed (states : List CellState) (entries : List Entry) (full : List Bool) (left : ℕ) : Type 0 where
   pub sized : length states ≡ cell_count
   pub index : IsIndexOf (λ id cell. has_id id (cell_state states cell)) entries
   pub once : HasOneEach cell_count states
   pub counted : length entries ≡ count_by is_open states
   pub passing : (passes : ℕ → Bool) → count_by (λ entry. passes entry.id) entries ≡ count_by (has_id_by passes) states
-  pub before : (cell : ℕ) → cell < first → is_open (cell_state states cell) ≡ true
+  pub groups : (group : ℕ) → get_or full group false ≡ true → IsFullGroup states group
   pub in_doubt : left ≡ count_by is_in_doubt states
 
 -- a row and a count are others with what a cell of this state adds

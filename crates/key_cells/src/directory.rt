@@ -1,7 +1,7 @@
 // The directory in memory.
-ghost use Rattle.std.specs.Prelude.{◌≡◌, ◌≢◌, ◌<◌, ◌⊎◌, ◌↔◌, true, ℕ, length, set, replicate, count_by, IfOk, MatchOption, IsTrue};
+ghost use Rattle.std.specs.Prelude.{◌≡◌, ◌<◌, ◌↔◌, true, ℕ, length, set, replicate, count_by, IfOk, MatchOption, IsTrue};
 ghost use Rattle.key_index.specs.Index.{IsAlone, entries_of};
-ghost use Rattle.key_cells.specs.{declared.state.CellState.TheVariants.Free, Layout.cell_count, Contents.cell_state, Contents.has_id, Contents.is_open, Contents.IsSure, Contents.IsFull, Contents.IsFirstWithoutKey, Contents.HasNoKey, Contents.IsFirstWithKey, Directory.HasBeside, Directory.is_in_doubt, Directory.is_of_range};
+ghost use Rattle.key_cells.specs.{declared.state.CellState.TheVariants.Free, Layout.cell_count, Contents.cell_state, Contents.has_id, Contents.is_open, Contents.IsSure, Contents.IsFull, Contents.IsFirstWithoutKey, Contents.HasNoKey, Contents.IsFirstWithKey, Directory.HasBeside, Directory.IsFirstOfGroup, Directory.IsFullGroup, Directory.is_in_doubt, Directory.is_of_range};
 
 use crate::CellState;
 use crate::layout::CELLS;
@@ -13,14 +13,20 @@ use std::marker::Model;
 /// How many identifiers a range has.
 const RANGE: u64 = 1 << 26;
 
+/// How many cells a group has.
+const GROUP: usize = 64;
+
+/// How many groups the cells are.
+const GROUPS: usize = 32;
+
 /// What is known of each cell. No two have keys of one identifier.
 #[derive(Drop)]
 pub struct Directory {
     states: Vec<CellState>,
     // the open cells, by the identifiers of their keys
     index: Box<KeyIndex<CELLS>>,
-    // each cell before this one is open
-    first: usize,
+    // of which groups each cell is known to be open, so that they are passed over for a cell without a key
+    full: [bool; GROUPS],
     // how many cells are in doubt
     in_doubt: usize,
 }
@@ -34,7 +40,7 @@ impl Model for Directory {
 
     ghost view = { λ d. d.states.items };
 
-    ghost invariant = { λ d. AreIndexed d.states.items d.index.value d.first d.in_doubt };
+    ghost invariant = { λ d. AreIndexed d.states.items d.index.value d.full d.in_doubt };
 }
 
 // Takes out of an index what it has of a cell with this state, and answers how many cells are then in doubt.
@@ -72,15 +78,18 @@ fn put_in(index: &mut KeyIndex<CELLS>, in_doubt: usize, cell: usize, state: Cell
     }
 }
 
-// Where the first cell may be that isn't open, once a cell has this state.
-fn first_after(first: usize, cell: usize, state: CellState) -> usize
-    requires within { cell < cell_count }
-    ensures { (k : ℕ) → k < result → ((k < first) × (k ≢ cell)) ⊎ ((k ≡ cell) × (is_open state ≡ true)) }
+// The first cell of a group that isn't open.
+fn first_of_group(states: &[CellState], group: usize) -> Option<usize>
+    requires sized { length states.now ≡ cell_count }
+    requires within { group < 32 }
+    ensures { MatchOption result (IsFullGroup states.now group) (λ cell. IsFirstOfGroup states.now group cell) }
 {
-    if !state.has_key() {
-        return first.min(cell);
+    for cell in GROUP * group..GROUP * group + GROUP {
+        if !states[cell].has_key() {
+            return Some(cell);
+        }
     }
-    if cell == first { first + 1 } else { first }
+    None
 }
 
 impl Directory {
@@ -97,7 +106,7 @@ impl Directory {
         Ok(Directory {
             states,
             index,
-            first: 0,
+            full: [false; GROUPS],
             in_doubt: 0,
         })
     }
@@ -118,8 +127,9 @@ impl Directory {
     {
         let left = take_out(&mut self.index, self.in_doubt, cell, self.states[cell]);
         self.in_doubt = put_in(&mut self.index, left, cell, state);
-        self.first = first_after(self.first, cell, state);
         self.states[cell] = state;
+        let group = cell / GROUP;
+        self.full[group] = first_of_group(&self.states, group).is_none();
     }
 
     /// The cell of the key of this identifier.
@@ -136,9 +146,11 @@ impl Directory {
     pub fn first_without_key(&self) -> Option<usize>
         ensures { MatchOption result (IsFull self.now) (λ cell. IsFirstWithoutKey self.now cell) }
     {
-        for cell in self.first..CELLS {
-            if !self.states[cell].has_key() {
-                return Some(cell);
+        for group in 0..GROUPS {
+            if !self.full[group] {
+                if let Some(cell) = first_of_group(&self.states, group) {
+                    return Some(cell);
+                }
             }
         }
         None

@@ -14,7 +14,8 @@
 //!   no key the disk isn't read.
 //! - `destroy`: `freed`, `forgotten`: a destruction that succeeds frees the key's cell, and a device that tells has the
 //!   key no more.
-//! - `open`: a start, and each that the opening permits; the keys are the image's; a refusal as `key_cells` says it.
+//! - `open`: a start, and each that the opening permits; the keys are the image's; a refusal as `key_cells` says it, or the
+//!   first range with more keys than it may have, where the limits are by range (`room`, `refused`).
 //! - `the_start_is_the_disks`: where the disk tells, every start found the same keys in the same order.
 //! - `a_crash_leaves_a_prefix`: a crash since the opening leaves the keys of some prefix; one since a call was done those
 //!   of a prefix that holds it.

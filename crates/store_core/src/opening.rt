@@ -76,10 +76,11 @@ fn range_over_limit<D: Disk>(file: &KeyFile<D>) -> Option<u32>
 
 impl<D: Disk, A: Devices, C: Admission> Store<D, A, C> {
     /// Opens the store of a disk, or makes one on a disk of length 0, for callers whose random words have this seed. The keys
-    /// are those of the disk, and no call was made yet. `Memory` where there is no room for the slots, for the buffer or for the directory: for the former two it comes
-    /// before the disk is called. `Disk` only where the disk's faults rose; `NotAStore` and `DamagedCell` for what the disk
-    /// has, and then nothing is written to it. With limits by range, `RangeFull` where a range has more than 128 of the keys:
-    /// the disk is then as the opening of its file left it. Where the store isn't opened the disk and the devices come back.
+    /// are those of the disk, and no call was made yet. `Memory` where there is no room for the slots, for the buffer or for
+    /// the directory: for the former two it comes before the disk is called. `Disk` only where the disk's faults rose;
+    /// `NotAStore` and `DamagedCell` for what the disk has, and then nothing is written to it. With limits by range,
+    /// `RangeFull` where a range has more than 128 of the keys: the disk is then as the opening of its file left it. Where the
+    /// store isn't opened the disk and the devices come back.
     pub fn open(
         alloc: Global,
         disk: D,

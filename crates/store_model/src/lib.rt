@@ -9,8 +9,9 @@
 //!   handle; any refusal leaves its output buffer, but for the zeros of INVALID_SIGNATURE, INVALID_PADDING and
 //!   HARDWARE_FAILURE.
 //! - `stays_sound`, `keys_stay`, `alive_by_number`: a sound service stays so over calls of its sixteen callers, with at
-//!   most 2,048 persistent keys, with limits by range 128 of each range, and 16 live volatile ones of a caller; its keys stay until they are destroyed; whether an
-//!   operation's key is there is whether some key has its creation number, which no two keys have.
+//!   most 2,048 persistent keys, with limits by range 128 of each range, and 16 live volatile ones of a caller; its keys
+//!   stay until they are destroyed; whether an operation's key is there is whether some key has its creation number, which
+//!   no two keys have.
 //! - `rules_are_followed`, `copies_gain_nothing`: a created key obeys each rule; no chain of copies gains a flag or an
 //!   algorithm.
 //! - `marks_alone`, `causes_go_on`: the statuses of failed devices come exactly of marks; a history whose marks stand
