@@ -1,10 +1,10 @@
 -- What keeps a directory: its row of open cells, and its counts.
 use Rattle.key_cells.proofs.Common.{[], ap, arith, Bool, cases_eq, cases_lt, cell_count, cell_state, CellState, cond, count_by, drop, eq-eqb, false, Free, get_or, get_or-replicate, get_or-set_other, get_or-set_same, has_id, HasNoKey, HasOneEach, is_open, length, length-replicate, length-set, List, Open, refl, replicate, set, settled_state, settled_states, Shut, subst, suc, sum_by-cons, sym, true, Unsure, zero, ℕ, ⊎_elim, ◌*◌, ◌+◌, ◌-◌, ◌<◌, ◌==◌, ◌^◌, ◌∙◌, ◌∷◌, ◌≡◌, ◌≢◌, ◌≤◌, ◌⊎◌}
 use Rattle.std.proofs.{lemmas.Bool.ne_eqb, lemmas.List.get_or_past, lemmas.List.Recursion.is_count_by, lemmas.List.Sorted.IsPermutation-sym, lemmas.List.Sorted.length_permutation, lemmas.List.Sorted.sum_by-IsPermutation, lemmas.List.Sums.count_by-le-length, lemmas.List.Sums.get_or-le-sum_by, lemmas.List.Sums.sum_by-set, lemmas.Bool.Decides.nat_tests}
-use Rattle.std.specs.{List.sum_by, Prelude.MatchOption, Prelude.None, Prelude.Option, Prelude.Some, Prelude.is_some, Prelude.◌/◌}
+use Rattle.std.specs.{List.sum_by, Prelude.◌/◌}
 use Rattle.key_index.specs.{Index.is_between, Index.IsAlone, Index.IsIndexOf, Index.entries_of, declared.index.Entry.Entry}
 use Rattle.key_index.proofs.Changes.{index_gains, index_loses, index_same}
-use Rattle.key_cells.specs.{Directory.AreIndexed, Directory.HasBeside, Directory.IsFirstOfGroup, Directory.IsFullGroup, Directory.has_id_by, Directory.is_in_doubt, Directory.is_of_range}
+use Rattle.key_cells.specs.{Directory.AreIndexed, Directory.HasBeside, Directory.IsFullGroup, Directory.has_id_by, Directory.is_in_doubt, Directory.is_of_range}
 
 -- a state has no identifier beside that of its key
 pub no_id_shut : (id : ℕ) (state : CellState) → is_open state ≡ false → has_id id state ≡ false
@@ -117,13 +117,8 @@ kept_some states entries full left cell kept within is =
     omega (arith, at_most is_in_doubt states cell (omega (arith, kept.sized, within)), one, kept.in_doubt)
 
 -- the group of a cell
-pub group_of : (cell group : ℕ) → 64 * group ≤ cell → cell < 64 * group + 64 → group ≡ cell / 64
+pub group_of : (cell group : ℕ) → 32 * group ≤ cell → cell < 32 * group + 32 → group ≡ cell / 32
 group_of cell group low high = grind (arith, nat_tests, low, high)
-
--- a group in which no cell was found that isn't open
-pub whole_of : (found : Option ℕ) (states : List CellState) (group : ℕ) → MatchOption found (IsFullGroup states group) (λ cell. IsFirstOfGroup states group cell) → is_some found ≡ false → IsFullGroup states group
-whole_of None states group whole none = whole
-whole_of (Some cell) states group first none = cc
 
 -- what is left of a row and a count once a cell was taken out of them
 module _ (states : List CellState) (entries middle : List Entry) (groups : List Bool) (left less cell : ℕ) (kept : AreIndexed states entries groups left) (within : cell < cell_count) (out : HasBeside (cell_state states cell) cell entries middle left less) where
@@ -153,7 +148,7 @@ module _ (states : List CellState) (entries middle : List Entry) (groups : List 
     by_test false = has_none states id i none
 
   module _ (state : CellState) (more : List Entry) (flag : Bool) (left' : ℕ) (new : (id : ℕ) → has_id id state ≡ true → HasNoKey states id) (put : HasBeside state cell more middle left' less)
-      (whole : flag ≡ true → IsFullGroup (set states cell state) (cell / 64)) where
+      (whole : flag ≡ true → IsFullGroup (set states cell state) (cell / 32)) where
     here : cell_state (set states cell state) cell ≡ state
     here = get_or-set_same states cell state Free there
 
@@ -188,20 +183,20 @@ module _ (states : List CellState) (entries middle : List Entry) (groups : List 
         clash : (k : ℕ) → k ≢ cell → has_id id state ≡ true → has_id id (cell_state (set states cell state) k) ≡ true → ⊥
         clash k differs at_cell there_too = let e : false ≡ true = sym (has_none states id k (new id at_cell)) ∙ at_old k differs there_too in cc
 
-    set_groups : (group : ℕ) → get_or (set groups (cell / 64) flag) group false ≡ true → IsFullGroup (set states cell state) group
+    set_groups : (group : ℕ) → get_or (set groups (cell / 32) flag) group false ≡ true → IsFullGroup (set states cell state) group
     set_groups group is = ⊎_elim
         (λ same. rw same (whole (told (rw same at is))))
-        (λ differs k low high. ap is_open (elsewhere k (λ at. differs (group_of k group low high ∙ ap (λ (n : ℕ). n / 64) at)))
-        ∙ kept.groups group (sym (get_or-set_other groups (cell / 64) group flag false differs) ∙ is) k low high)
-        (cases_eq group (cell / 64))
+        (λ differs k low high. ap is_open (elsewhere k (λ at. differs (group_of k group low high ∙ ap (λ (n : ℕ). n / 32) at)))
+        ∙ kept.groups group (sym (get_or-set_other groups (cell / 32) group flag false differs) ∙ is) k low high)
+        (cases_eq group (cell / 32))
       where
-        told : get_or (set groups (cell / 64) flag) (cell / 64) false ≡ true → flag ≡ true
+        told : get_or (set groups (cell / 32) flag) (cell / 32) false ≡ true → flag ≡ true
         told is = ⊎_elim
-            (λ few. sym (get_or-set_same groups (cell / 64) flag false few) ∙ is)
-            (λ past. let none : false ≡ true = sym (get_or_past (set groups (cell / 64) flag) (cell / 64) false (omega (arith, length-set groups (cell / 64) flag, past))) ∙ is in cc)
-            (cases_lt (cell / 64) (length groups))
+            (λ few. sym (get_or-set_same groups (cell / 32) flag false few) ∙ is)
+            (λ past. let none : false ≡ true = sym (get_or_past (set groups (cell / 32) flag) (cell / 32) false (omega (arith, length-set groups (cell / 32) flag, past))) ∙ is in cc)
+            (cases_lt (cell / 32) (length groups))
 
-    pub kept_set : AreIndexed (set states cell state) more (set groups (cell / 64) flag) left'
+    pub kept_set : AreIndexed (set states cell state) more (set groups (cell / 32) flag) left'
     kept_set = record {
       sized = full state;
       index = set_index;
@@ -212,7 +207,7 @@ module _ (states : List CellState) (entries middle : List Entry) (groups : List 
       in_doubt = omega (arith, beside_left state cell more middle left' less put, beside_left (cell_state states cell) cell entries middle left less out, count_set is_in_doubt states cell state there, kept.in_doubt);
     }
 
-pub kept_start : (n : ℕ) → n ≡ cell_count → AreIndexed (replicate n Free) [] (replicate 32 false) 0
+pub kept_start : (n : ℕ) → n ≡ cell_count → AreIndexed (replicate n Free) [] (replicate 64 false) 0
 kept_start n is = record {
   sized = length-replicate n Free ∙ is;
   index = λ id k. ap (λ b. cond b 1 0) (sym (ap (has_id id) (free_at k)));
@@ -225,8 +220,8 @@ kept_start n is = record {
   free_at : (k : ℕ) → cell_state (replicate n Free) k ≡ Free
   free_at k = ⊎_elim (λ within. get_or-replicate n k Free Free within) (λ past. get_or_past (replicate n Free) k Free (omega (arith, length-replicate n Free, past))) (cases_lt k n)
 
-  no_group : (group : ℕ) → get_or (replicate 32 false) group false ≡ false
-  no_group group = ⊎_elim (λ within. get_or-replicate 32 group false false within) (λ past. get_or_past (replicate 32 false) group false (omega (arith, length-replicate 32 false, past))) (cases_lt group 32)
+  no_group : (group : ℕ) → get_or (replicate 64 false) group false ≡ false
+  no_group group = ⊎_elim (λ within. get_or-replicate 64 group false false within) (λ past. get_or_past (replicate 64 false) group false (omega (arith, length-replicate 64 false, past))) (cases_lt group 64)
 
   none_of : (p : CellState → Bool) → p Free ≡ false → (m : ℕ) → count_by p (replicate m Free) ≡ 0
   none_of p not_free zero = refl

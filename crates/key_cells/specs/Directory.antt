@@ -18,16 +18,16 @@ has_id_by passes _ = false
 abbrev pub is_of_range : ℕ → CellState → Bool
 is_of_range range state = has_id_by (λ id. id / 2 ^ 26 == range) state
 
--- Cells are in groups of 64. Each cell of one is open.
+-- Cells are in groups of 32. Each cell of one is open.
 abbrev pub IsFullGroup : List CellState → ℕ → Type 0
-IsFullGroup states group = (cell : ℕ) → 64 * group ≤ cell → cell < 64 * group + 64 → is_open (cell_state states cell) ≡ true
+IsFullGroup states group = (cell : ℕ) → 32 * group ≤ cell → cell < 32 * group + 32 → is_open (cell_state states cell) ≡ true
 
 -- the first cell of a group that isn't
 pub record IsFirstOfGroup (states : List CellState) (group cell : ℕ) : Type 0 where
-  pub from : 64 * group ≤ cell
-  pub within : cell < 64 * group + 64
+  pub from : 32 * group ≤ cell
+  pub within : cell < 32 * group + 32
   pub here : is_open (cell_state states cell) ≡ false
-  pub before : (other : ℕ) → 64 * group ≤ other → other < cell → is_open (cell_state states other) ≡ true
+  pub before : (other : ℕ) → 32 * group ≤ other → other < cell → is_open (cell_state states other) ≡ true
 
 -- a row has each open cell by the identifier of its key, these groups have no other cells, and so many are in doubt
 pub record AreIndexed (states : List CellState) (entries : List Entry) (full : List Bool) (left : ℕ) : Type 0 where

@@ -14,10 +14,10 @@ use std::marker::Model;
 const RANGE: u64 = 1 << 26;
 
 /// How many cells a group has.
-const GROUP: usize = 64;
+const GROUP: usize = 32;
 
 /// How many groups the cells are.
-const GROUPS: usize = 32;
+const GROUPS: usize = 64;
 
 /// What is known of each cell. No two have keys of one identifier.
 #[derive(Drop)]
@@ -81,7 +81,7 @@ fn put_in(index: &mut KeyIndex<CELLS>, in_doubt: usize, cell: usize, state: Cell
 // The first cell of a group that isn't open.
 fn first_of_group(states: &[CellState], group: usize) -> Option<usize>
     requires sized { length states.now ≡ cell_count }
-    requires within { group < 32 }
+    requires within { group < 64 }
     ensures { MatchOption result (IsFullGroup states.now group) (λ cell. IsFirstOfGroup states.now group cell) }
 {
     for cell in GROUP * group..GROUP * group + GROUP {
@@ -90,6 +90,15 @@ fn first_of_group(states: &[CellState], group: usize) -> Option<usize>
         }
     }
     None
+}
+
+// Whether a cell that was given this state fills its group. Nothing is looked at where it has no key.
+fn fills(states: &[CellState], group: usize, state: CellState) -> bool
+    requires sized { length states.now ≡ cell_count }
+    requires within { group < 64 }
+    ensures { result ≡ true → IsFullGroup states.now group }
+{
+    state.has_key() && first_of_group(states, group).is_none()
 }
 
 impl Directory {
@@ -129,7 +138,7 @@ impl Directory {
         self.in_doubt = put_in(&mut self.index, left, cell, state);
         self.states[cell] = state;
         let group = cell / GROUP;
-        self.full[group] = first_of_group(&self.states, group).is_none();
+        self.full[group] = fills(&self.states, group, state);
     }
 
     /// The cell of the key of this identifier.

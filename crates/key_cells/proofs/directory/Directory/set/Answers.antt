@@ -1,5 +1,4 @@
-use Rattle.std.specs.Prelude.{not}
-use Rattle.key_cells.proofs.{Common.HasNoKey, Common.ap, Common.arith, Common.get_or_read, Common.Free, Common.has_id, Common.true, Common.ℕ, Common.◌≡◌, Common.◌∙◌, Directories.kept_alone, Directories.kept_few, Directories.kept_missing, Directories.kept_room, Directories.kept_set, Directories.kept_some, Directories.whole_of}
+use Rattle.key_cells.proofs.{Common.HasNoKey, Common.arith, Common.get_or_read, Common.Free, Common.has_id, Common.true, Common.ℕ, Common.◌≡◌, Directories.kept_alone, Directories.kept_few, Directories.kept_missing, Directories.kept_room, Directories.kept_set, Directories.kept_some}
 use Rattle.key_cells.proofs.directory.Directory.set.Goals as goal
 
 pub take_out-left-requires-clause-alone : goal.take_out-left-requires-clause-alone
@@ -37,4 +36,4 @@ invariant_of-self c =
     let out = rw (c.deref_mut.ensures.value, is) at c.take_out-left.ensures in
     let new : (id : ℕ) → has_id id c.args.state ≡ true → HasNoKey c.self.inside.states.items id = rw c.self.view_is c.requires.new in
     kept_set _ _ _ _ _ _ _ c.self.invariant c.requires.within out _ _ _ _ new (rw c.deref_mut-2.ensures.value at c.put_in-self-inside.ensures)
-    (λ is. whole_of _ _ _ (rw c.deref.ensures.value at c.first_of_group.ensures) (c.is_none.ensures ∙ ap not is))
+    (rw c.deref.ensures.value at c.fills.ensures)
