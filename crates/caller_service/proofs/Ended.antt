@@ -74,6 +74,5 @@ module _ {D A C : Type 0} (w : World D A C) (disk : D) (devices : A) (old new : 
       promise = closed.promise;
       freed = closed.freed;
       cells = closed.cells;
-      any_cells = closed.any_cells;
     };
   }

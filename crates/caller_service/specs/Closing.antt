@@ -1,9 +1,9 @@
 -- What is known once a service is closed.
-use Rattle.std.specs.Prelude.{◌≡◌, ◌<◌, ◌≤◌, ℕ, true, List, [], All, length, get_or, is_some}
+use Rattle.std.specs.Prelude.{◌≡◌, ◌<◌, ◌≤◌, ℕ, true, List, All, length, get_or, is_some}
 use Rattle.key_cells.specs.Prelude.{cell_count}
 use Rattle.turn_history.specs.Prelude.{entries_of, calls_by, StartsWith}
 use Rattle.store_model.specs.Prelude.{Service, Entry, replay, last_counts}
-use Rattle.store_core.specs.Prelude.{FreedCellsAreZeros, HasKeyOrIsClosed, HasKeyOrZeros, KeepsKeys, course_of, durable_keys, opening_of}
+use Rattle.store_core.specs.Prelude.{FreedCellsAreZeros, HasKeyOrIsClosed, KeepsKeys, course_of, durable_keys, opening_of}
 use Rattle.locked_store.specs.Prelude.{caller_of, IsLegal, IsStartOf, World}
 use Rattle.callers.specs.{Retired.IsRetired, Retired.MakesNoCall, declared.caller.Caller.Caller}
 
@@ -21,9 +21,7 @@ pub record IsLeft {D A C : Type 0} (w : World D A C) (history : List Entry) (dis
   pub promise : is_some (w.disk.contents w.opened.file.value.cells.disk) ≡ true → (start : Service) → IsStartOf w start →
       KeepsKeys (w.disk.left_since disk) (w.disk.moment disk) (opening_of w.disk w.devices w.rules w.opened).moment start history
   pub freed : is_some (w.disk.contents w.opened.file.value.cells.disk) ≡ true → (start : Service) → IsStartOf w start → FreedCellsAreZeros (w.disk.left_since disk) start history
-  pub cells : is_some (w.disk.contents w.opened.file.value.cells.disk) ≡ true → (start : Service) → IsStartOf w start → (course_of start history).doubt ≡ [] →
-      (image : List ℕ) → w.disk.left_since disk (w.disk.moment disk) image → (cell : ℕ) → cell < cell_count → HasKeyOrZeros (durable_keys (replay start history).store) cell image
-  pub any_cells : is_some (w.disk.contents w.opened.file.value.cells.disk) ≡ true → (start : Service) → IsStartOf w start →
+  pub cells : is_some (w.disk.contents w.opened.file.value.cells.disk) ≡ true → (start : Service) → IsStartOf w start →
       (image : List ℕ) → w.disk.left_since disk (w.disk.moment disk) image → (cell : ℕ) → cell < cell_count →
       HasKeyOrIsClosed (durable_keys (replay start history).store) (course_of start history).doubt cell image
 

@@ -4,15 +4,8 @@ use Rattle.disk_face.specs.declared.Disk as Disk
 use Rattle.std.proofs.{Common.ne_eqb, Common.suc, Common.zero, lemmas.List.get_or_past}
 unfoldable use Rattle.key_cells.specs.Layout.{blank_store}
 use Rattle.psa_status.specs.Causes.{Rose}
-use Rattle.key_cells.specs.{declared.reading.OpenFault.OpenFault, declared.layout.Layout.Layout, declared.layout.Layout.TheVariants.Older, declared.layout.Layout.TheVariants.Current, Opened.KeepsKeysSinceSync}
-use Rattle.key_cells.proofs.{CellsRead.content_there, CellsRead.content_within, CellsRead.for_told, CellsRead.some_weaker, Finding.not_damaged, Keeping.cells_most, Keeping.part_same, Marking.within_then, Moves.settled_alike, Moves.settled_open, SameKeys.keys_since}
-
-pub no_open_zeros : (n : ℕ) → HasNoOpenCell (replicate n 0)
-no_open_zeros n cell lt is = by (n - place cell) (ap (take 1) (sym (drop-replicate (place cell) n 0)) ∙ is)
-  where
-    by : (m : ℕ) → take 1 (replicate m 0) ≡ opened_gate → ⊥
-    by zero e = cc
-    by (suc m) e = cc
+use Rattle.key_cells.specs.{declared.reading.OpenFault.OpenFault, declared.layout.Layout.Layout, declared.layout.Layout.TheVariants.Older, declared.layout.Layout.TheVariants.Current, Image.IsOpenable, Image.IsWhole, Opened.IsOpenedFile, Opened.KeepsKeysSinceSync}
+use Rattle.key_cells.proofs.{CellsRead.content_there, CellsRead.content_within, CellsRead.for_told, CellsRead.some_weaker, Finding.not_damaged, Keeping.cells_most, Keeping.part_same, Marking.within_then, Moves.settled_alike, Moves.settled_open, SameKeys.keys_since, Whole.no_open_zeros, Whole.openable, Whole.whole}
 
 spares_itself : (image : List ℕ) → IsStoreFile image → SparesStore image image
 spares_itself image store = record {
@@ -96,25 +89,35 @@ module _ {D : Type 0} (disks : Disk.Ghosts D) where
   after : (o o' : Option (List ℕ)) (P Q : List ℕ → Type 0) → o' ≡ o → ((image : List ℕ) → P image → Q image) → IfSome o' P → IfSome o Q
   after o o' P Q same f h = subst (λ (x : Option (List ℕ)). IfSome x Q) same (some_weaker o' P Q f h)
 
+  same_told : (o o' : Option (List ℕ)) (P : List ℕ → Type 0) → o' ≡ o → IfSome o' P → IfSome o P
+  same_told o o' P same h = subst (λ (x : Option (List ℕ)). IfSome x P) same h
+
   spares_after : (a b c : D) → Calm disks a b → (image : List ℕ) → (IsStoreFile image → WithinSpares (disks.moment b) (disks.moment c) (disks.left_since b) (disks.left_since c) (disks.may_leave b) image) → IsStoreFile image → WithinSpares (disks.moment a) (disks.moment c) (disks.left_since a) (disks.left_since c) (disks.may_leave a) image
   spares_after a b c calm image later store =
       within_both (disks.moment a) (disks.moment b) (disks.moment c) (disks.left_since a) (disks.left_since b) (disks.left_since c) (disks.may_leave a) (λ other. disks.may_leave b other ⊎ SparesStore image other) (λ other. disks.may_leave a other ⊎ SparesStore image other)
       calm.within (later store) (λ other h. inl h) (λ other h. ⊎_elim (λ left. inl (calm.crash other left)) (λ spared. inr spared) h)
 
   -- what an opening gives after steps that wrote nothing
-  pub opened_after : (a b c : D) (states : List CellState) → Calm disks a b → IsOpened disks b c states → IsOpened disks a c states
-  opened_after a b c states calm o = record {
-    sized = o.sized;
-    one = o.one;
-    numbered = o.numbered;
-    named = o.named;
+  file_after : (a b c : D) → Calm disks a b → IsOpenedFile disks b c → IsOpenedFile disks a c
+  file_after a b c calm o = record {
     tells = o.tells ∙ ap is_some calm.same;
-    found = after (disks.contents a) (disks.contents b) (λ image. IsFoundIn image states) (λ image. IsFoundIn image states) calm.same (λ image h. h) o.found;
-    stands = after (disks.contents a) (disks.contents b) (λ image. StandsForContents disks c states (found_in image)) (λ image. StandsForContents disks c states (found_in image)) calm.same (λ image h. h) o.stands;
+    openable = same_told (disks.contents a) (disks.contents b) IsOpenable calm.same o.openable;
+    whole = same_told (disks.contents a) (disks.contents b) (λ image. (other : List ℕ) → disks.may_leave c other → IsWhole image other) calm.same o.whole;
     spares = after (disks.contents a) (disks.contents b) _ _ calm.same (λ image h. spares_after a b c calm image h) o.spares;
     since_sync = after (disks.contents a) (disks.contents b) _ _ calm.same (λ image h store. since_after a b c image (SparesStore image) calm (h store)) o.since_sync;
     blank = after (disks.contents a) (disks.contents b) _ _ calm.same (λ image h none. since_after a b c blank_store HasNoOpenCell calm (h none)) o.blank;
     keys = after (disks.contents a) (disks.contents b) _ _ calm.same (λ image h opens clean. since_after a b c image (HoldsSameKeys image) calm (h opens clean)) o.keys;
+  }
+
+  pub opened_after : (a b c : D) (states : List CellState) → Calm disks a b → IsOpened disks b c states → IsOpened disks a c states
+  opened_after a b c states calm o = record {
+    file = file_after a b c calm o.file;
+    sized = o.sized;
+    one = o.one;
+    numbered = o.numbered;
+    named = o.named;
+    found = same_told (disks.contents a) (disks.contents b) (λ image. IsFoundIn image states) calm.same o.found;
+    stands = same_told (disks.contents a) (disks.contents b) (λ image. StandsForContents disks c states (found_in image)) calm.same o.stands;
   }
 
   pub refused_after : (a b c : D) (fault : OpenFault) → Calm disks a b → IsOpeningRefused disks b c fault → IsOpeningRefused disks a c fault
@@ -382,19 +385,29 @@ module _ {D : Type 0} (disks : Disk.Ghosts D) (disk : D) (layout : Layout) (stat
       → ((image : List ℕ) → disks.contents disk ≡ Some image → StandsForContents disks new states' (contents_of image)) → SparesWithin new
       → IsOpened disks disk new states'
   read_opened new states' only_now free count is one numbered named tells stands within = record {
+    file = record {
+      tells = tells;
+      openable = openable (disks.contents disk) states' found;
+      whole = whole disks new states' (disks.contents disk) found stand;
+      spares = read_spares new within;
+      since_sync = for_told (disks.contents disk) _ (λ image told_is file. read_since new only_now within image told_is);
+      blank = for_told (disks.contents disk) _ (λ image told_is none. absurd (omega (arith, store_long image (here image told_is).0, ap length none)));
+      keys = for_told (disks.contents disk) _ (λ image told_is opens clean. keys_since disks disk new image (read_since new only_now within image told_is) opens clean);
+    };
     sized = ap length is ∙ (length-map states settled_state ∙ count);
     one = settled_one states states' count is one;
     numbered = settled_numbered states states' count is numbered;
     named = settled_named states states' count is named;
-    tells = tells;
-    found = of_directory (disks.contents disk) states' (for_told (disks.contents disk) _ (λ image told_is.
-        settled_directory states states' count is image (here image told_is).0 (read image told_is) (subst (λ (l : Layout). AreFreeFrom (cells_by l) states) (sym (here image told_is).1) free) one));
-    stands = of_store (disks.contents disk) (λ image contents. StandsForContents disks new states' contents) (for_told (disks.contents disk) _ (λ image told_is. ((here image told_is).0, stands image told_is)));
-    spares = read_spares new within;
-    since_sync = for_told (disks.contents disk) _ (λ image told_is file. read_since new only_now within image told_is);
-    blank = for_told (disks.contents disk) _ (λ image told_is none. absurd (omega (arith, store_long image (here image told_is).0, ap length none)));
-    keys = for_told (disks.contents disk) _ (λ image told_is opens clean. keys_since disks disk new image (read_since new only_now within image told_is) opens clean);
+    found = found;
+    stands = stand;
   }
+    where
+      found : IfSome (disks.contents disk) (λ image. IsFoundIn image states')
+      found = of_directory (disks.contents disk) states' (for_told (disks.contents disk) _ (λ image told_is.
+          settled_directory states states' count is image (here image told_is).0 (read image told_is) (subst (λ (l : Layout). AreFreeFrom (cells_by l) states) (sym (here image told_is).1) free) one))
+
+      stand : IfSome (disks.contents disk) (λ image. StandsForContents disks new states' (found_in image))
+      stand = of_store (disks.contents disk) (λ image contents. StandsForContents disks new states' contents) (for_told (disks.contents disk) _ (λ image told_is. ((here image told_is).0, stands image told_is)))
 
   read_opens : HasOneEach cell_count states → (image : List ℕ) → disks.contents disk ≡ Some image → Opens image
   read_opens one image is = record { store = (here image is).0; sound = λ cell lt damaged. not_damaged (cells_of image) states image (read image is) (λ id c other less less'. one id c other (omega (arith, less, cells_most image)) (omega (arith, less', cells_most image))) cell lt damaged }

@@ -1,7 +1,7 @@
 -- What an image of a store file has: keys, or what it is refused for.
-use Rattle.std.specs.{Prelude.◌≡◌, Prelude.◌≢◌, Prelude.◌⊎◌, Prelude.◌↔◌, Prelude.ℕ, Prelude.◌<◌, Prelude.◌≤◌, Prelude.List, Prelude.length, Prelude.take, Prelude.drop, Prelude.MatchOption, Prelude.Option, Int.w32, Int.from_le_bytes}
+use Rattle.std.specs.{Prelude.◌≡◌, Prelude.◌≢◌, Prelude.◌⊎◌, Prelude.◌↔◌, Prelude.ℕ, Prelude.◌<◌, Prelude.◌≤◌, Prelude.List, Prelude.[], Prelude.length, Prelude.take, Prelude.drop, Prelude.MatchOption, Prelude.Option, Int.w32, Int.from_le_bytes}
 use Rattle.key_attributes.specs.declared.Attributes.{Attributes}
-use Rattle.key_cells.specs.{declared.layout.Layout.Layout, Layout.HasSize, Layout.cell_count, Layout.cells_of, Layout.header_size, Layout.layout_of, Layout.part, Layout.gate, Layout.body, Layout.opened_gate, Layout.closed, Layout.store_name, Layout.no_more, Contents.HasZeros, Body.HoldsKey, Body.HoldsNoKey}
+use Rattle.key_cells.specs.{declared.layout.Layout.Layout, declared.layout.Layout.TheVariants.Current, Layout.HasSize, Layout.cell_count, Layout.cells_of, Layout.header_size, Layout.layout_of, Layout.part, Layout.gate, Layout.body, Layout.opened_gate, Layout.closed, Layout.store_name, Layout.no_more, Contents.HasZeros, Body.HoldsKey, Body.HoldsNoKey}
 
 -- the header and the length of a store
 pub record IsStoreFile (image : List ℕ) : Type 0 where
@@ -37,6 +37,10 @@ pub record Opens (image : List ℕ) : Type 0 where
   pub store : IsStoreFile image
   pub sound : (cell : ℕ) → cell < cells_of image → IsDamaged image cell → ⊥
 
+-- one that an opening takes: it can be opened, or is a new file's
+abbrev pub IsOpenable : List ℕ → Type 0
+IsOpenable image = (image ≡ []) ⊎ Opens image
+
 -- one that can't: it is no store, or its first damaged cell is this one
 pub record IsNoStore (image : List ℕ) : Type 0 where
   pub some : length image ≢ 0
@@ -67,6 +71,12 @@ pub record SparesStore (image other : List ℕ) : Type 0 where
   pub zeros : (cell : ℕ) → cell < cells_of image → HasZeros cell image → HasZeros cell other
   pub beyond : (cell : ℕ) → cells_of image ≤ cell → cell < cells_of other → HasZeros cell other
   pub cleared : (length image < length other) ⊎ (cells_of image < cells_of other) → (cell : ℕ) → cell < cells_of image → (IsOpen cell image → ⊥) → HasZeros cell other
+
+-- Another image is a store of today's layout, with each open cell of this one, byte for byte, and zeros in all others.
+pub record IsWhole (image other : List ℕ) : Type 0 where
+  pub store : IsStoreOf Current other
+  pub open_cells : (cell : ℕ) → cell < cells_of image → IsOpen cell image → IsOpen cell other × (body cell other ≡ body cell image)
+  pub zeros : (cell : ℕ) → cell < cell_count → (cell < cells_of image → IsOpen cell image → ⊥) → HasZeros cell other
 
 -- each closed cell of an image is all zeros
 abbrev pub HasZerosWhereClosed : List ℕ → Type 0

@@ -3,7 +3,7 @@ use Rattle.disk_face.specs.declared.Disk as Disk
 use Rattle.std.specs.Prelude.{◌≡◌, ◌≤◌, ◌⊎◌, ℕ, List, [], length, replicate, Some, IfSome}
 use Rattle.psa_status.specs.Causes.{Rose}
 use Rattle.disk_face.specs.{Disk.NoNewImage, Disk.LeavesWhatIsRead, Disk.StillTells, Moments.Within}
-use Rattle.key_cells.specs.{declared.state.CellState.CellState, declared.reading.OpenFault.OpenFault, Layout.blank_store, Layout.cell_count, Contents.StandsForContents, Image.HasNoOpenCell, Image.HoldsSameKeys, Image.HasZerosWhereClosed, Image.IsStoreFile, Image.Opens, Image.SparesStore, Causes.IsOpenFaultOf, Causes.IsDisk, Causes.IsRefusal}
+use Rattle.key_cells.specs.{declared.state.CellState.CellState, declared.reading.OpenFault.OpenFault, Layout.blank_store, Layout.cell_count, Contents.StandsForContents, Image.HasNoOpenCell, Image.HoldsSameKeys, Image.HasZerosWhereClosed, Image.IsOpenable, Image.IsStoreFile, Image.IsWhole, Image.Opens, Image.SparesStore, Causes.IsOpenFaultOf, Causes.IsDisk, Causes.IsRefusal}
 use Rattle.key_cells.specs.Opening.{found_in, IsFoundIn, HasOneEach, IsNumbered, IsNamed, WithinSpares}
 
 -- calls that wrote nothing
@@ -43,22 +43,28 @@ WritesItsOwn disks old new image =
     ⊎ (Opens image × SparesSinceSync disks old new image)
     ⊎ ((image ≡ []) × (IfSome (disks.contents new) (λ read. read ≡ replicate (length read) 0) ⊎ IsBlankSinceSync disks old new))
 
--- An opening found exactly the keys of the disk's image, and nothing is in doubt. Where each closed cell was all zeros, each
--- image since its first sync can be opened and has these keys. Of a store that was there, every
--- image within the opening has each open cell byte for byte, or might have been left before the opening, and since its
--- first sync each has them; of a new file no image has an open cell since its zeros were made sure of.
-pub record IsOpened {D : Type 0} (disks : Disk.Ghosts D) (old new : D) (states : List CellState) : Type 0 where
-  pub sized : length states ≡ cell_count
-  pub one : HasOneEach cell_count states
-  pub numbered : IsNumbered cell_count states
-  pub named : IsNamed cell_count states
+-- A file was opened. It was a store without a damaged cell, or a new one. Now each image is whole. Where each closed cell was
+-- all zeros, each image since its first sync can be opened and has the same keys. Of a store that was there, every image
+-- within the opening has each open cell byte for byte, or might have been left before the opening, and since its first sync
+-- each has them; of a new file no image has an open cell since its zeros were made sure of.
+pub record IsOpenedFile {D : Type 0} (disks : Disk.Ghosts D) (old new : D) : Type 0 where
   pub tells : StillTells (disks.contents old) (disks.contents new)
-  pub found : IfSome (disks.contents old) (λ image. IsFoundIn image states)
-  pub stands : IfSome (disks.contents old) (λ image. StandsForContents disks new states (found_in image))
+  pub openable : IfSome (disks.contents old) IsOpenable
+  pub whole : IfSome (disks.contents old) (λ image. (other : List ℕ) → disks.may_leave new other → IsWhole image other)
   pub spares : IfSome (disks.contents old) (λ image. IsStoreFile image → WithinSpares (disks.moment old) (disks.moment new) (disks.left_since old) (disks.left_since new) (disks.may_leave old) image)
   pub since_sync : IfSome (disks.contents old) (λ image. IsStoreFile image → SparesSinceSync disks old new image)
   pub blank : IfSome (disks.contents old) (λ image. image ≡ [] → IsBlankSinceSync disks old new)
   pub keys : IfSome (disks.contents old) (λ image. Opens image → HasZerosWhereClosed image → KeepsKeysSinceSync disks old new image)
+
+-- It gave a directory, of exactly the keys of the disk's image, and nothing is in doubt.
+pub record IsOpened {D : Type 0} (disks : Disk.Ghosts D) (old new : D) (states : List CellState) : Type 0 where
+  pub file : IsOpenedFile disks old new
+  pub sized : length states ≡ cell_count
+  pub one : HasOneEach cell_count states
+  pub numbered : IsNumbered cell_count states
+  pub named : IsNamed cell_count states
+  pub found : IfSome (disks.contents old) (λ image. IsFoundIn image states)
+  pub stands : IfSome (disks.contents old) (λ image. StandsForContents disks new states (found_in image))
 
 -- An opening was refused: for what the image has, and then nothing was written and nothing is pending, or for a fault
 -- of the disk or of memory. What was written is the opening's own.

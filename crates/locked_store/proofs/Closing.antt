@@ -1,8 +1,8 @@
 -- What is known once all passes are handed in.
-use Rattle.locked_store.proofs.Common.{All, Entry, HasKeyOrIsClosed, HasKeyOrZeros, HoldsHistory, IsClosed, List, Option, Pairs, StartsWith, Store, World, caller_of, calls_by, course_of, durable_keys, entries_of, inl, subst, ℕ, ◌<◌, ◌∙◌, ◌≡◌, ◌≤◌}
+use Rattle.locked_store.proofs.Common.{All, Entry, HasKeyOrIsClosed, HoldsHistory, IsClosed, List, Option, Pairs, StartsWith, Store, World, caller_of, calls_by, course_of, durable_keys, entries_of, inl, subst, ℕ, ◌<◌, ◌∙◌, ◌≡◌, ◌≤◌}
 use Rattle.turn_history.specs.declared.pass.Account.{Account}
 use Rattle.store_model.specs.Store as model
-use Rattle.store_core.proofs.{Freeing.freed_zeros, Sure.any_cells, Sure.sure_cells}
+use Rattle.store_core.proofs.{Freeing.freed_zeros, Sure.left_cells}
 use Rattle.locked_store.proofs.Renewing.{At, legal}
 
 module _ {D A C : Type 0} (w : World D A C)
@@ -21,18 +21,12 @@ module _ {D A C : Type 0} (w : World D A C)
     tells = s.tells;
     promise = λ tells start is. (s.each start is).holds.promise (s.tells ∙ tells);
     freed = λ tells start is. freed_zeros w.disk store.file.cells.disk store.file.cells.states start (entries_of turns) ((s.each start is).holds.freed (s.tells ∙ tells));
-    cells = λ tells start is none image left cell lt.
-        let disk = store.file.cells.disk in
-        let holds = (s.each start is).holds in
-        let now = s.tells ∙ tells in
-        subst (λ (m : model.Store). HasKeyOrZeros (durable_keys m) cell image) (holds.replayed (inl now))
-        (sure_cells w.disk disk store.file.cells.states (durable_keys holds.model) (course_of start (entries_of turns)).doubt (holds.file now) (holds.sure now none) image (only_now disk image left) cell lt);
-    any_cells = λ tells start is image left cell lt.
+    cells = λ tells start is image left cell lt.
         let disk = store.file.cells.disk in
         let holds = (s.each start is).holds in
         let now = s.tells ∙ tells in
         subst (λ (m : model.Store). HasKeyOrIsClosed (durable_keys m) (course_of start (entries_of turns)).doubt cell image) (holds.replayed (inl now))
-        (any_cells w.disk disk store.file.cells.states (durable_keys holds.model) (course_of start (entries_of turns)).doubt (holds.file now) image (only_now disk image left) cell lt);
+        (left_cells w.disk disk store.file.cells.states (durable_keys holds.model) (course_of start (entries_of turns)).doubt (holds.file now) (holds.sure now) image (only_now disk image left) cell lt);
   }
 
   pub closed : (store : Store D A C) (passes : ℕ) (turns : List (Option Entry)) (all : List Pairs) (accounts : List (Account Entry)) → store.opened ≡ w.opened → passes ≡ 16 →

@@ -1,10 +1,10 @@
 -- Passes that are new, and what is known once all are handed in.
-use Rattle.std.specs.Prelude.{◌≡◌, ◌<◌, ◌≤◌, ℕ, true, List, [], All, length, slice_index_or, Option, is_some}
+use Rattle.std.specs.Prelude.{◌≡◌, ◌<◌, ◌≤◌, ℕ, true, List, All, length, slice_index_or, Option, is_some}
 use Rattle.key_cells.specs.Prelude.{cell_count}
 use Rattle.atomic_table.specs.declared.shared.Seat.{Seat}
 use Rattle.turn_history.specs.{declared.pass.Account.Account, declared.pass.View.View, Prelude.entries_of, Prelude.calls_by, Prelude.StartsWith}
 use Rattle.store_model.specs.Prelude.{Service, Entry, replay, last_counts}
-use Rattle.store_core.specs.{declared.store.Opened.Opened, Prelude.FreedCellsAreZeros, Prelude.HasKeyOrIsClosed, Prelude.HasKeyOrZeros, Prelude.KeepsKeys, Prelude.course_of, Prelude.durable_keys, Prelude.opening_of}
+use Rattle.store_core.specs.{declared.store.Opened.Opened, Prelude.FreedCellsAreZeros, Prelude.HasKeyOrIsClosed, Prelude.KeepsKeys, Prelude.course_of, Prelude.durable_keys, Prelude.opening_of}
 use Rattle.locked_store.specs.{Standing.caller_of, Turning.IsAt, Turning.IsLegal, Turning.IsStartOf, Worlds.World}
 
 -- each of these passes is of this lock, and outside any turn
@@ -28,8 +28,6 @@ pub record IsClosed {D A C : Type 0} (w : World D A C) (disk : D) (devices : A) 
   pub promise : is_some (w.disk.contents w.opened.file.value.cells.disk) ≡ true → (start : Service) → IsStartOf w start →
       KeepsKeys (w.disk.left_since disk) (w.disk.moment disk) (opening_of w.disk w.devices w.rules w.opened).moment start (entries_of turns)
   pub freed : is_some (w.disk.contents w.opened.file.value.cells.disk) ≡ true → (start : Service) → IsStartOf w start → FreedCellsAreZeros (w.disk.left_since disk) start (entries_of turns)
-  pub cells : is_some (w.disk.contents w.opened.file.value.cells.disk) ≡ true → (start : Service) → IsStartOf w start → (course_of start (entries_of turns)).doubt ≡ [] →
-      (image : List ℕ) → w.disk.left_since disk (w.disk.moment disk) image → (cell : ℕ) → cell < cell_count → HasKeyOrZeros (durable_keys (replay start (entries_of turns)).store) cell image
-  pub any_cells : is_some (w.disk.contents w.opened.file.value.cells.disk) ≡ true → (start : Service) → IsStartOf w start →
+  pub cells : is_some (w.disk.contents w.opened.file.value.cells.disk) ≡ true → (start : Service) → IsStartOf w start →
       (image : List ℕ) → w.disk.left_since disk (w.disk.moment disk) image → (cell : ℕ) → cell < cell_count →
       HasKeyOrIsClosed (durable_keys (replay start (entries_of turns)).store) (course_of start (entries_of turns)).doubt cell image

@@ -1,11 +1,11 @@
 -- Why a command ends as it does.
-use Rattle.std.proofs.Common.{Err, IfSome, IsOk, IsSomeAnd, List, None, Ok, Option, Some, [], ap, arith, inl, inr, is_some, refl, subst, sym, true, ℕ, ◌∷◌, ◌≡◌, ◌⊎◌}
+use Rattle.std.proofs.Common.{Err, IfSome, IsOk, IsSomeAnd, List, None, Ok, Option, Some, [], ap, arith, inl, inr, is_some, length, refl, subst, sym, true, ℕ, ◌∷◌, ◌≡◌, ◌⊎◌}
 use Rattle.psa_command.proofs.Common.{AreLinesOf, Command, DamagedCell, DiskFault, Done, EndsBy, Exit, HasStore, IsDonePlainly, IsOfImage, IsReadable, IsRun, IsUnrun, IsWritten, Memory, NotAStore, ReadFault, ReplyLine, Script, ScriptFault, ScriptLine, Usage, WriteFault, exit_of, exit_unanswered, leb_tells, script_of, text_by, options_of}
 use Rattle.admission.specs.Apply.{picked}
 use Rattle.psa_status.specs.Causes.{Rose}
 use Rattle.policy_rules.specs.declared.narrowing.Label.{Label}
 use Rattle.disk_face.specs.Disk.{NoNewImage}
-use Rattle.key_cells.specs.{Prelude.IsFirstDamaged, Prelude.IsNoStore, Prelude.IsFoundIn, declared.reading.OpenFault.OpenFault}
+use Rattle.key_cells.specs.{Prelude.IsFirstDamaged, Prelude.IsNoStore, declared.reading.OpenFault.OpenFault}
 use Rattle.key_cells.specs.declared.reading.OpenFault.TheVariants as opening
 use Rattle.command_words.specs.{declared.command.Command.TheVariants.Run, declared.command.Command.TheVariants.Generate, declared.command.RunOptions.RunOptions}
 use Rattle.session_host.specs.{declared.lines.Unanswered.Unanswered, declared.lines.Unanswered.TheVariants.NotOpened, Runs.AreAnswered, Runs.IsUnanswered}
@@ -17,7 +17,7 @@ use Rattle.admission.specs.declared.rules.Admission as Admission
 -- AN IMAGE THAT OPENS ISN'T REFUSED
 
 is_store : (image : List ℕ) → HasStore (Some image) → IsNoStore image → ⊥
-is_store image (inl new) none = none.some new
+is_store image (inl new) none = none.some (ap length new)
 is_store image (inr opens) none = none.other opens.store
 
 is_sound : (image : List ℕ) (cell : ℕ) → HasStore (Some image) → IsFirstDamaged image cell → ⊥
@@ -86,15 +86,7 @@ module _ {D A C : Type 0} (disks : Disk.Ghosts D) (elements : Devices.Ghosts A) 
 
   -- a store that was opened was one, or was new
   was_found : (replies : List ReplyLine) → Answers replies → IfSome (disks.contents disk) (λ image. HasStore (Some image))
-  was_found replies r = found (disks.contents disk) r.answered.run.opening.found.found
-    where
-      opens : (image : List ℕ) → IsFoundIn image r.answered.run.opened.file.value.cells.states → HasStore (Some image)
-      opens [] h = inl refl
-      opens (byte ∷ rest) h = inr h.opens
-
-      found : (t : Option (List ℕ)) → IfSome t (λ image. IsFoundIn image r.answered.run.opened.file.value.cells.states) → IfSome t (λ image. HasStore (Some image))
-      found None h = tt
-      found (Some image) h = opens image h
+  was_found replies r = r.answered.run.opening.found.openable
 
   tells_store : (t : Option (List ℕ)) → HasStore t → is_some t ≡ true
   tells_store None has = absurd has

@@ -1,9 +1,9 @@
 -- What a command runs, and what is known of its end.
-use Rattle.std.specs.{Prelude.ℕ, Prelude.◌≡◌, Prelude.◌⊎◌, Prelude.List, Prelude.[], Prelude.flat_map, Prelude.replicate, Prelude.length, Prelude.IfSome, Prelude.IsOk, Prelude.IsSomeAnd, Prelude.Ok, Prelude.Option, Io.KnownBytes.Appends}
+use Rattle.std.specs.{Prelude.ℕ, Prelude.◌≡◌, Prelude.◌⊎◌, Prelude.List, Prelude.[], Prelude.flat_map, Prelude.replicate, Prelude.IfSome, Prelude.IsOk, Prelude.IsSomeAnd, Prelude.Ok, Prelude.Option, Io.KnownBytes.Appends}
 use Rattle.psa_status.specs.Causes.{Rose}
 use Rattle.policy_rules.specs.declared.narrowing.Label.{Label}
 use Rattle.admission.specs.Apply.{picked}
-use Rattle.key_cells.specs.Prelude.{Opens}
+use Rattle.key_cells.specs.Prelude.{IsOpenable}
 use Rattle.script_lang.specs.{declared.script.ScriptLine.ScriptLine, Prelude.ReplyLine, Prelude.reply_text, Prelude.script_of}
 use Rattle.line_generator.specs.{Generator.generator_lines, Summary.summary_of}
 use Rattle.command_words.specs.{declared.command.Command.Command, declared.command.RunOptions.RunOptions, declared.command.Command.TheVariants.Run, declared.command.Command.TheVariants.Generate}
@@ -71,4 +71,4 @@ IsReadable (Generate count) left = Unit {0}
 
 -- a disk that tells its bytes has a store, or is new
 abbrev pub HasStore : Option (List ℕ) → Type 0
-HasStore told = IsSomeAnd told (λ image. (length image ≡ 0) ⊎ Opens image)
+HasStore told = IsSomeAnd told IsOpenable

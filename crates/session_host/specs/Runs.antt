@@ -4,15 +4,15 @@ use Rattle.atomic_table.specs.Seated.{TableId}
 use Rattle.psa_status.specs.Causes.{Rose}
 use Rattle.policy_rules.specs.declared.narrowing.Label.{Label}
 use Rattle.store_model.specs.{Prelude.Service, Prelude.Entry, Prelude.IsSoundStore, declared.limits.Limits.TheVariants.Whole}
-use Rattle.store_core.specs.{declared.opening.StoreFault.TheVariants.File, declared.store.Opened.Opened, Prelude.FindsKeysOf, Prelude.opening_of}
-use Rattle.locked_store.specs.Prelude.{IsNotOpened, IsStartOf, World, world_of}
+use Rattle.store_core.specs.{declared.store.Opened.Opened, Prelude.FindsKeysOf, Prelude.opening_of}
+use Rattle.locked_store.specs.Prelude.{IsFileNotOpened, IsStartOf, World, world_of}
 use Rattle.caller_service.specs.Closing.{IsLeft}
 use Rattle.script_lang.specs.{declared.script.ScriptLine.ScriptLine, Prelude.AreAllKept, Prelude.ReplyLine, Prelude.Turn, Prelude.lines_of, Prelude.replies_to, declared.replies.Replies.Replies, declared.replies.ReplyForm.ReplyForm}
 use Rattle.session_host.specs.{Bounds.AreBounded, Bounds.ArePlain, Bounds.failures_marked, Places.failure_of, Sessions.AreTurnsIn, declared.lines.Unanswered.Unanswered, declared.lines.Unanswered.TheVariants.NotOpened, declared.lines.Unanswered.TheVariants.Memory}
 use Rattle.disk_face.specs.declared.Disk as Disk
 use Rattle.driver_dispatch.specs.declared.devices.Devices as Devices
 use Rattle.admission.specs.declared.rules.Admission as Admission
-use Rattle.key_cells.specs.Prelude.{IsOpened}
+use Rattle.key_cells.specs.Prelude.{IsOpenedFile}
 
 -- the calls of a history are made in the order of the lines
 abbrev pub IsInLineOrder : List ScriptLine → List Entry → Type 0
@@ -25,7 +25,7 @@ module _ {D A C : Type 0} (w : World D A C) where
     pub starts : (start : Service) × IsStartOf w start
     pub sound : (start : Service) → IsStartOf w start → IsSoundStore start.store
     pub keys : IfSome (w.disk.contents disk) (FindsKeysOf w.disk w.devices w.rules w.opened)
-    pub found : IsOpened w.disk disk w.opened.file.value.cells.disk w.opened.file.value.cells.states
+    pub found : IsOpenedFile w.disk disk w.opened.file.value.cells.disk
     pub later : w.disk.faults disk ≤ w.disk.faults w.opened.file.value.cells.disk
     pub devices_are : w.opened.devices.value ≡ devices
     pub seed_is : w.opened.seed.value ≡ seed
@@ -71,5 +71,5 @@ module _ {D A C : Type 0} (disks : Disk.Ghosts D) (elements : Devices.Ghosts A) 
   -- The lines have no replies for this reason: their store wasn't opened, and the devices come back as they were, or memory ran
   -- out after that.
   abbrev pub IsUnanswered : (disk : D) (devices : A) (named : List Label) (seed : List ℕ) (lines : List ScriptLine) → Unanswered → (disk_after : D) (devices_after : A) → Type 0
-  IsUnanswered disk devices named seed lines (NotOpened fault) disk_after devices_after = IsNotOpened disks Whole disk disk_after (File fault) × (devices_after ≡ devices)
+  IsUnanswered disk devices named seed lines (NotOpened fault) disk_after devices_after = IsFileNotOpened disks disk disk_after fault × (devices_after ≡ devices)
   IsUnanswered disk devices named seed lines Memory disk_after devices_after = IsBroken disk devices named seed lines disk_after devices_after

@@ -53,14 +53,14 @@ pub record IsPlaced (told : Option (List ℕ)) (slots : List CellState) (n : ℕ
   pub kept : IsKeyOf key.attributes key.bytes
   pub holds : IfSome told (λ image. HoldsKey key.attributes key.bytes (body at image))
 
-module _ (told : Option (List ℕ)) (slots : List CellState) (found : List OpenedKey) (sized : length slots ≡ cell_count) (numbered : IsNumbered cell_count slots) (are : AreOpened told slots found) where
+module _ (told : Option (List ℕ)) (slots : List CellState) (found : List OpenedKey) (sized : length slots ≡ cell_count) (are : AreOpened told slots found) where
   pub placed : (n : ℕ) (key : OpenedKey) → slice_get found n ≡ Some key → IsPlaced told slots n key
   placed n key e =
       let within : n < length found = slice_get_within found n key e in
       let here = cell_of slots n (let count = are.count in omega arith) in
       let lt : here.at < cell_count = omega (arith, here.within) in
       let o = open_slot (cell_state slots here.at) here.opened in
-      let number : o.number ≡ n = number_counts slots numbered here.at o.id o.number lt o.is ∙ here.counted in
+      let number : o.number ≡ n = are.order here.at o.id o.number lt o.is ∙ here.counted in
       let k = are.each here.at o.id o.number lt o.is in
       let there : slice_get found n ≡ Some k.0 = ap (slice_get found) (sym number) ∙ k.1 in
       let same : k.0 ≡ key = (let both : Some k.0 ≡ Some key = sym there ∙ e in cc) in
@@ -70,13 +70,13 @@ module _ (told : Option (List ℕ)) (slots : List CellState) (found : List Opene
   pub are_kept : AreKept found
   are_kept = record { each = λ i key e. (placed i key e).kept }
 
-  pub each_once : HasOneEach cell_count slots → HasEachOnce found
-  each_once one = record {
+  pub each_once : HasEachOnce found
+  each_once = record {
     one = λ i j key other e f same.
         let p = placed i key e in
         let q = placed j other f in
-        let here : p.at ≡ q.at = one (id_of key) p.at q.at p.within q.within (has_own _ (id_of key) i p.slot) (ap (λ (x : ℕ). has_id x (cell_state slots q.at)) same ∙ has_own _ (id_of other) j q.slot) in
-        sym (ap creation_of_state p.slot) ∙ (ap (λ (c : ℕ). creation_of_state (cell_state slots c)) here ∙ ap creation_of_state q.slot);
+        let here : p.at ≡ q.at = are.one p.at q.at (id_of key) i j p.within q.within p.slot (q.slot ∙ ap (λ (id : ℕ). Open id j) (sym same)) in
+        are.order p.at (id_of key) i p.within p.slot ∙ (ap (λ (c : ℕ). count_by is_open (take c slots)) here ∙ sym (are.order q.at (id_of other) j q.within q.slot));
   }
 
 -- KEYS FOR THEM
@@ -106,7 +106,7 @@ at_end : (xs : List OpenedKey) (key : OpenedKey) → slice_get (xs ++ key ∷ []
 at_end [] key = refl
 at_end (x ∷ xs) key = at_end xs key
 
-module _ (told : Option (List ℕ)) (slots : List CellState) (sized : length slots ≡ cell_count) (numbered : IsNumbered cell_count slots) (there : (c id number : ℕ) → c < cell_count → cell_state slots c ≡ Open id number → HasCellKey told c id) where
+module _ (told : Option (List ℕ)) (slots : List CellState) (sized : length slots ≡ cell_count) (numbered : IsNumbered cell_count slots) (one : HasOneEach cell_count slots) (there : (c id number : ℕ) → c < cell_count → cell_state slots c ≡ Open id number → HasCellKey told c id) where
   next : (count : ℕ) → count < cell_count → FoundBelow told slots count → (b : Bool) → is_open (cell_state slots count) ≡ b → FoundBelow told slots (count + 1)
   next count lt below true is =
       let o = open_slot (cell_state slots count) is in
@@ -148,6 +148,8 @@ module _ (told : Option (List ℕ)) (slots : List CellState) (sized : length slo
         all.found,
         record {
           count = all.counts ∙ ap (count_by is_open) (take_all cell_count slots (omega arith));
+          order = number_counts slots numbered;
+          one = λ c other id number another lt less is also. one id c other lt less (has_own (cell_state slots c) id number is) (has_own (cell_state slots other) id another also);
           each = λ c id n lt e. let k = all.each c id n lt e in (k.0, k.1, k.2.named, k.2.kept, k.2.holds);
         },
       )

@@ -110,7 +110,7 @@ opened_key a bytes = record { attributes = a; bytes = bytes }
 same_key : (a b : Attributes) (bytes other : List ℕ) → (a ≡ b) × (bytes ≡ other) → opened_key a bytes ≡ opened_key b other
 same_key a b bytes other same = ap (λ (x : Attributes). opened_key x bytes) same.0 ∙ ap (opened_key b) same.1
 
-module _ (slots : List CellState) (image now : List ℕ) (are : AreTold slots image now) (sized : length slots ≡ cell_count) (numbered_by : IsNumbered cell_count slots) (found : List OpenedKey) (keys : AreOpened (Some now) slots found) where
+module _ (slots : List CellState) (image now : List ℕ) (are : AreTold slots image now) (sized : length slots ≡ cell_count) (found : List OpenedKey) (keys : AreOpened (Some now) slots found) where
   pub key_found : (a : Attributes) (bytes : List ℕ) → HasKey a bytes image → (number : ℕ) × (slice_get found number ≡ Some (opened_key a bytes))
   key_found a bytes has =
       let c = has.0 in
@@ -124,7 +124,7 @@ module _ (slots : List CellState) (image now : List ℕ) (are : AreTold slots im
 
   pub found_key : (a : Attributes) (bytes : List ℕ) → (number : ℕ) × (slice_get found number ≡ Some (opened_key a bytes)) → HasKey a bytes image
   found_key a bytes at =
-      let p = placed (Some now) slots found sized numbered_by keys at.0 (opened_key a bytes) at.1 in
+      let p = placed (Some now) slots found sized keys at.0 (opened_key a bytes) at.1 in
       let here = cell_in slots image now are p.at (id_of (opened_key a bytes)) at.0 p.within p.slot in
       (p.at, here.within, here.opened, in_image at.0 (opened_key a bytes) p)
 
@@ -147,7 +147,7 @@ module _ (slots : List CellState) (image now : List ℕ) (are : AreTold slots im
         of None at e = absurd (cc)
         of (Some k) at e =
             let f = found_at 0 found id k at in
-            let p = placed (Some now) slots found sized numbered_by keys f.place f.from f.there in
+            let p = placed (Some now) slots found sized keys f.place f.from f.there in
             let is : Some (stored f.place f.from.attributes f.from.bytes) ≡ Some key = sym (durable f.place f.from f.there p.kept) ∙ (ap (durable_keys (start_of settings found)) f.named ∙ (ap kept at ∙ e)) in
             let same : stored f.place f.from.attributes f.from.bytes ≡ key = cc in
             subst (IsInCell id) same
@@ -174,10 +174,10 @@ same_places (x ∷ xs) [] same each = absurd (omega arith)
 same_places (x ∷ xs) (y ∷ ys) same each =
     ap (λ (k : OpenedKey). k ∷ xs) (each 0 x y refl refl) ∙ ap (λ (l : List OpenedKey). y ∷ l) (same_places xs ys (omega arith) (λ i k l e f. each (suc i) k l e f))
 
-pub one_start : (image : List ℕ) (slots : List CellState) (found other : List OpenedKey) → length slots ≡ cell_count → IsNumbered cell_count slots → AreOpened (Some image) slots found → AreOpened (Some image) slots other → found ≡ other
-one_start image slots found other sized numbered_by are are' =
+pub one_start : (image : List ℕ) (slots : List CellState) (found other : List OpenedKey) → length slots ≡ cell_count → AreOpened (Some image) slots found → AreOpened (Some image) slots other → found ≡ other
+one_start image slots found other sized are are' =
     same_places found other (are.count ∙ sym are'.count) (λ i x y e f.
-    let p = placed (Some image) slots found sized numbered_by are i x e in
+    let p = placed (Some image) slots found sized are i x e in
     let k = are'.each p.at (id_of x) i p.within p.slot in
     let same : Some k.0 ≡ Some y = sym k.1 ∙ f in
     let is : k.0 ≡ y = cc in

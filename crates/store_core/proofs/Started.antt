@@ -57,21 +57,21 @@ module _ (told : Option (List ℕ)) (slots : List CellState) (found : List Opene
   pub all_persistent : count_persistent first.keys ≡ length found
   all_persistent = counted (λ id. nat_lt id 0x40000000) true 0 found once (λ i key e. lt-ltb (id_of key) 0x40000000 (let most = low i key e in omega arith))
 
-  -- a directory of so many numbered cells has these keys
-  module _ (sized : length slots ≡ cell_count) (numbered_by : IsNumbered cell_count slots) (one : HasOneEach cell_count slots) (are : AreOpened told slots found) where
+  -- a directory of so many cells has these keys
+  module _ (sized : length slots ≡ cell_count) (are : AreOpened told slots found) where
     directory_starts : IsDirectory slots first
     directory_starts = record {
       sized = sized;
       there = λ id key at is.
           let f = found_at 0 found id key at in
-          let p = placed told slots found sized numbered_by are f.place f.from f.there in
+          let p = placed told slots found sized are f.place f.from f.there in
           let number : f.place ≡ key.number = omega arith ∙ ap (λ (k : Key). k.number) (sym f.is) in
           (p.at, p.within, p.slot ∙ (ap (λ (x : ℕ). Open x f.place) f.named ∙ ap (Open id) number));
       only = λ c id number lt is.
           let k = are.each c id number lt is in
           let at : map_get first.keys id ≡ Some (numbered (0 + number) k.0) = ap (map_get first.keys) (sym k.2) ∙ at_found 0 found once number k.0 k.1 in
           (numbered (0 + number) k.0, at, lasting k.0.attributes k.0.bytes k.3, omega arith);
-      one = λ c other id number another lt lt' is is'. one id c other lt lt' (has_own (cell_state slots c) id number is) (has_own (cell_state slots other) id another is');
+      one = are.one;
     }
 
     low_key : (id : ℕ) (key : Key) → map_get first.keys id ≡ Some key → is_volatile key.attributes ≡ false → is_low id ≡ true
@@ -130,7 +130,7 @@ module _ {D A C : Type 0} (disks : DiskGhosts D) (elements : DevicesGhosts A) (a
     -- there is a start
     pub starts : (settings : Settings) → settings.seed ≡ store.opened.seed.value → settings.labels ≡ admits.labels store.rules → settings.locations ≡ elements.locations store.devices → settings.limits ≡ store.limits → (start : Service) × Start store.opened start
     starts settings seed_is labels_are locations_are limits_are =
-        let keys = some_opened (disks.contents disk) slots new.file.sized new.file.numbered (cell_key slots (disks.contents first) (disks.contents disk) (disks.may_leave disk) new.file.named new.file.tells new.file.found sounds reads) in (
+        let keys = some_opened (disks.contents disk) slots new.file.sized new.file.numbered new.file.one (cell_key slots (disks.contents first) (disks.contents disk) (disks.may_leave disk) new.file.named new.file.file.tells new.file.found sounds reads) in (
           service_of (start_of settings keys.0),
           record {
             settings = settings;
@@ -150,11 +150,11 @@ module _ {D A C : Type 0} (disks : DiskGhosts D) (elements : DevicesGhosts A) (a
 
     those : (found : List OpenedKey) → AreOpened (disks.contents disk) slots found → IfSome (disks.contents first) (HasThose found)
     those found are =
-        told_twice slots (disks.may_leave disk) (disks.contents first) (disks.contents disk) new.file.tells new.file.found sounds reads (λ before now. AreOpened now slots found → IfSome before (HasThose found))
+        told_twice slots (disks.may_leave disk) (disks.contents first) (disks.contents disk) new.file.file.tells new.file.found sounds reads (λ before now. AreOpened now slots found → IfSome before (HasThose found))
         (λ keys. tt)
         (λ image read are keys a bytes. (
-          key_found slots image read are new.file.sized new.file.numbered found keys a bytes,
-          found_key slots image read are new.file.sized new.file.numbered found keys a bytes,
+          key_found slots image read are new.file.sized found keys a bytes,
+          found_key slots image read are new.file.sized found keys a bytes,
         ))
         are
 
@@ -174,14 +174,14 @@ module _ {D A C : Type 0} (disks : DiskGhosts D) (elements : DevicesGhosts A) (a
 
     found_durable : (settings : Settings) (found : List OpenedKey) → AreOpened (disks.contents disk) slots found → HasEachOnce found → IfSome (disks.contents first) (λ image. AreFound image slots (durable_keys (start_of settings found)))
     found_durable settings found are once =
-        told_twice slots (disks.may_leave disk) (disks.contents first) (disks.contents disk) new.file.tells new.file.found sounds reads (λ before now. AreOpened now slots found → IfSome before (λ image. AreFound image slots (durable_keys (start_of settings found))))
+        told_twice slots (disks.may_leave disk) (disks.contents first) (disks.contents disk) new.file.file.tells new.file.found sounds reads (λ before now. AreOpened now slots found → IfSome before (λ image. AreFound image slots (durable_keys (start_of settings found))))
         (λ keys. tt)
-        (λ image read are keys. durable_found slots image read are new.file.sized new.file.numbered found keys settings once)
+        (λ image read are keys. durable_found slots image read are new.file.sized found keys settings once)
         are
 
     file_starts : (settings : Settings) (found : List OpenedKey) → AreOpened (disks.contents disk) slots found → HasEachOnce found → is_some (disks.contents disk) ≡ true → StandsForKeys disks disk slots (durable_keys (start_of settings found)) []
     file_starts settings found are once tells =
-        with_those (durable_keys (start_of settings found)) (disks.contents first) (found_stands disks first disk slots new.file) (found_durable settings found are once) (sym new.file.tells ∙ tells)
+        with_those (durable_keys (start_of settings found)) (disks.contents first) (found_stands disks first disk slots new.file) (found_durable settings found are once) (sym new.file.file.tells ∙ tells)
 
     same_moment : disks.moment store.opened.file.value.cells.disk ≡ disks.moment disk
     same_moment = ap (λ (f : KeyFile D). disks.moment f.cells.disk) new.saw_file
@@ -203,18 +203,17 @@ module _ {D A C : Type 0} (disks : DiskGhosts D) (elements : DevicesGhosts A) (a
         let settings : Settings = s.settings in
         let m : Model = start_of settings found in
         let sized = new.file.sized in
-        let numbered_by = new.file.numbered in
         let are : AreOpened (disks.contents disk) slots found = keys_of start s in
-        let kept : AreKept found = are_kept (disks.contents disk) slots found sized numbered_by are in
-        let once : HasEachOnce found = each_once (disks.contents disk) slots found sized numbered_by are new.file.one in
-        let few_keys : length found ≤ cell_count = few_found (disks.contents disk) slots found settings kept once sized numbered_by new.file.one are in
+        let kept : AreKept found = are_kept (disks.contents disk) slots found sized are in
+        let once : HasEachOnce found = each_once (disks.contents disk) slots found sized are in
+        let few_keys : length found ≤ cell_count = few_found (disks.contents disk) slots found settings kept once sized are in
         let file : is_some (disks.contents disk) ≡ true → StandsForKeys disks disk slots (durable_keys m) [] = file_starts settings found are once in
         let store_is : m ≡ start.store = ap (λ (x : Service). x.store) (sym s.is) in
         record {
           holds = record {
             model = m;
             replayed = λ k. store_is;
-            sound = store_starts settings found (are_found m found kept once) few_keys (room_found (disks.contents disk) slots found settings kept once sized numbered_by new.file.one are store.limits (sym (s.limits_are ∙ new.saw_limits)) new.room);
+            sound = store_starts settings found (are_found m found kept once) few_keys (room_found (disks.contents disk) slots found settings kept once sized are store.limits (sym (s.limits_are ∙ new.saw_limits)) new.room);
             settings = ap (λ (x : Service). x.store.settings) (sym s.is);
             labels_are = s.labels_are ∙ ap admits.labels new.saw_rules;
             locations_are = s.locations_are ∙ ap elements.locations new.saw_devices;
@@ -228,10 +227,10 @@ module _ {D A C : Type 0} (disks : DiskGhosts D) (elements : DevicesGhosts A) (a
             ranked = new.ranked;
             slots = subst (λ l. Agrees l m (replicate callers [])) (sym new.slots) (empty_ones m callers (none_volatile (disks.contents disk) slots found settings kept once));
             holdings = none_out callers few;
-            directory = directory_starts (disks.contents disk) slots found settings kept once sized numbered_by new.file.one are;
+            directory = directory_starts (disks.contents disk) slots found settings kept once sized are;
             device = device_starts (disks.contents disk) slots found settings kept once (elements.keys store.devices) lacks;
             file = file;
-            sure = λ tells none. opened_sure (disks.contents first) slots sized new.file.found (sym new.file.tells ∙ tells);
+            sure = λ tells none. opened_sure (disks.contents first) slots sized new.file.found (sym new.file.file.tells ∙ tells);
             promise = λ tells. promise_starts start only_now (subst (λ (x : Model). StandsForKeys disks disk slots (durable_keys x) []) store_is (file tells));
             freed = λ tells. ([], refl, tt);
             caused = tt;

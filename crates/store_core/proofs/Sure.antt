@@ -61,7 +61,10 @@ any_cell keys doubt Shut (Doubtful bytes) g b shows tells = inr (inr shows)
 any_cell keys doubt Unsure (Doubtful bytes) g b shows tells = inr (inl (subst (IsDoubtedIn doubt) (sym shows) tells))
 any_cell keys doubt slot content g b shows tells = absurd shows
 
-pub any_cells : {D : Type 0} (disks : DiskGhosts D) (disk : D) (slots : List CellState) (keys : Keys) (doubt : Doubt) → StandsForKeys disks disk slots keys doubt →
+pub left_cells : {D : Type 0} (disks : DiskGhosts D) (disk : D) (slots : List CellState) (keys : Keys) (doubt : Doubt) → StandsForKeys disks disk slots keys doubt → (doubt ≡ [] → IsSure slots) →
     (image : List ℕ) → disks.may_leave disk image → (cell : ℕ) → cell < cell_count → HasKeyOrIsClosed keys doubt cell image
-any_cells disks disk slots keys doubt s image left cell lt =
-    any_cell keys doubt (cell_state slots cell) (content_at s.contents cell) (gate cell image) (body cell image) ((s.stands.each image left).each cell lt) (s.filed.each cell lt)
+left_cells disks disk slots keys [] s sure image left cell lt = inl (sure_cells disks disk slots keys [] s (sure refl) image left cell lt)
+left_cells disks disk slots keys (key ∷ doubt) s sure image left cell lt = ⊎_elim
+    (λ has. inl has)
+    (λ other. inr ((λ none. let clash : key ∷ doubt ≡ [] = none in cc), other))
+    (any_cell keys (key ∷ doubt) (cell_state slots cell) (content_at s.contents cell) (gate cell image) (body cell image) ((s.stands.each image left).each cell lt) (s.filed.each cell lt))

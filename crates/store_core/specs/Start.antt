@@ -2,17 +2,19 @@
 use Rattle.disk_face.specs.declared.Disk as Disk
 use Rattle.driver_dispatch.specs.declared.devices.Devices as Devices
 use Rattle.admission.specs.declared.rules.Admission as Admission
-use Rattle.std.specs.Prelude.{◌≡◌, ◌<◌, ◌≤◌, ◌↔◌, ℕ, List, [], length, replicate, count_by, slice_get, Option, Some, IfSome}
+use Rattle.std.specs.Prelude.{◌≡◌, ◌<◌, ◌≤◌, ◌↔◌, ℕ, List, [], length, replicate, take, count_by, slice_get, Option, Some, IfSome}
 use Rattle.key_cells.specs.declared.state.CellState as cell
 use Rattle.key_cells.specs.{declared.state.CellState.TheVariants.Open, Prelude.body, Prelude.cell_state, Prelude.is_open, Prelude.IsKeyOf, Prelude.HoldsKey, Prelude.HasKey, Prelude.cell_count}
 use Rattle.key_attributes.specs.declared.Attributes.{Attributes}
 use Rattle.store_model.specs.Prelude.{OpenedKey, Settings, Service, service_of, start_of}
 use Rattle.store_core.specs.{declared.store.Opened.Opened, declared.store.Store.Store, Represents.Opening, Represents.StandsFor}
 
--- The keys of a directory's open cells, by their numbers. Where the disk tells its bytes, each is the key that its cell has
--- there.
+-- The keys of a directory's open cells, numbered in the order of these, no two of which have the same identifier. Where the disk
+-- tells its bytes, each is the key that its cell has there.
 pub record AreOpened (told : Option (List ℕ)) (slots : List cell.CellState) (found : List OpenedKey) : Type 0 where
   pub count : length found ≡ count_by is_open slots
+  pub order : (c id number : ℕ) → c < cell_count → cell_state slots c ≡ Open id number → number ≡ count_by is_open (take c slots)
+  pub one : (c other id number another : ℕ) → c < cell_count → other < cell_count → cell_state slots c ≡ Open id number → cell_state slots other ≡ Open id another → c ≡ other
   pub each : (c id number : ℕ) → c < cell_count → cell_state slots c ≡ Open id number →
       (key : OpenedKey) × (slice_get found number ≡ Some key) × (key.attributes.id.0 ≡ id) × IsKeyOf key.attributes key.bytes × IfSome told (λ image. HoldsKey key.attributes key.bytes (body c image))
 

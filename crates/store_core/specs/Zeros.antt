@@ -2,7 +2,7 @@
 use Rattle.disk_face.specs.declared.Disk as Disk
 use Rattle.driver_dispatch.specs.declared.devices.Devices as Devices
 use Rattle.admission.specs.declared.rules.Admission as Admission
-use Rattle.std.specs.Prelude.{◌≡◌, ◌<◌, ◌⊎◌, ℕ, true, List, [], ◌∷◌, Some, is_some}
+use Rattle.std.specs.Prelude.{◌≡◌, ◌≢◌, ◌<◌, ◌⊎◌, ℕ, true, List, [], ◌∷◌, Some, is_some}
 use Rattle.disk_face.specs.Moments.{Within}
 use Rattle.key_cells.specs.{declared.state.CellState.TheVariants.Free, Prelude.gate, Prelude.body, Prelude.closed, Prelude.opened_gate, Prelude.HasZeros, Prelude.cell_state, Prelude.HoldsKey, Prelude.cell_count}
 use Rattle.persistent_keys.specs.{declared.file.KeyFile.KeyFile, Files.Stored, Files.Keys, Files.Doubt, Files.IsDoubtedIn, Calls.StandsForThese}
@@ -14,9 +14,9 @@ use Rattle.store_core.specs.{declared.store.Store.Store, Represents.Opening, Rep
 abbrev pub HasKeyOrZeros : Keys → ℕ → List ℕ → Type 0
 HasKeyOrZeros keys cell image = ((id : ℕ) × (key : Stored) × (keys id ≡ Some key) × (gate cell image ≡ opened_gate) × HoldsKey key.attributes key.bytes (body cell image)) ⊎ HasZeros cell image
 
--- and where keys are in doubt: it has the whole body of one of these too, whatever its gate, or is closed
+-- and only where keys are in doubt, it has the whole body of one of these, whatever its gate, or is closed
 abbrev pub HasKeyOrIsClosed : Keys → Doubt → ℕ → List ℕ → Type 0
-HasKeyOrIsClosed keys doubt cell image = HasKeyOrZeros keys cell image ⊎ (IsDoubtedIn doubt (body cell image) ⊎ (gate cell image ≡ closed))
+HasKeyOrIsClosed keys doubt cell image = HasKeyOrZeros keys cell image ⊎ ((doubt ≢ []) × (IsDoubtedIn doubt (body cell image) ⊎ (gate cell image ≡ closed)))
 
 -- a cell that is free before calls and after them is all zeros in every image that a crash within them leaves
 abbrev pub LeavesZeros : {D : Type 0} (disks : Disk.Ghosts D) (old new : KeyFile D) → Type 0
