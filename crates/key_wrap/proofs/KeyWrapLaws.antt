@@ -51,7 +51,7 @@ length-unwrap_step d t r h k =
     omega (arith, length-append (d (xor_number (take 8 r) t ++ drop last r)) (drop 8 (take last r)), length-drop 8 (take last r), length-take last r)
 
 -- the registers A, the middle ones and the last, taken apart
-unwrap_step_of_parts : (d : List ℕ → List ℕ) (t : ℕ) (a m z : List ℕ) → length a ≡ 8 → length z ≡ 8
+pub unwrap_step_of_parts : (d : List ℕ → List ℕ) (t : ℕ) (a m z : List ℕ) → length a ≡ 8 → length z ≡ 8
     → unwrap_step d t (a ++ m ++ z) ≡ d (xor_number a t ++ z) ++ m
 unwrap_step_of_parts d t a m z ha hz =
     let r : List ℕ = a ++ m ++ z in
@@ -62,7 +62,7 @@ unwrap_step_of_parts d t a m z ha hz =
     let middle : drop 8 (take last r) ≡ m = ap (drop 8) (take_at (a ++ m) z last long) ∙ drop_at a m 8 ha in
     ap₂ (λ (p q : List ℕ). p ++ q) (ap₂ (λ (p q : List ℕ). d (xor_number p t ++ q)) front back) middle
 
-wrap_step_of_parts : (e : List ℕ → List ℕ) (t : ℕ) (u m : List ℕ) → length u ≡ 16 → wrap_step e t (u ++ m) ≡ xor_number (take 8 (e u)) t ++ m ++ drop 8 (e u)
+pub wrap_step_of_parts : (e : List ℕ → List ℕ) (t : ℕ) (u m : List ℕ) → length u ≡ 16 → wrap_step e t (u ++ m) ≡ xor_number (take 8 (e u)) t ++ m ++ drop 8 (e u)
 wrap_step_of_parts e t u m h =
     let front : take 16 (u ++ m) ≡ u = take_at u m 16 h in
     let others : drop 16 (u ++ m) ≡ m = drop_at u m 16 h in
@@ -181,7 +181,7 @@ repeated_bytes (suc n) b h = more_bytes h (repeated_bytes n b h)
 initial_bytes : HasBytes initial_value
 initial_bytes = repeated_bytes 8 0xa6 (omega arith)
 
-checked : (d : List ℕ → List ℕ) (text key : List ℕ) → unwrap_steps d (6 * (length text / 8 - 1)) text ≡ initial_value ++ key → unwrap d text ≡ Some key
+pub checked : (d : List ℕ → List ℕ) (text key : List ℕ) → unwrap_steps d (6 * (length text / 8 - 1)) text ≡ initial_value ++ key → unwrap d text ≡ Some key
 unfolding unwrap
 checked d text key e = rw e refl
 

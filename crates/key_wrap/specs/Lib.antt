@@ -1,2 +1,4 @@
 pub mod KeyWrap
 pub mod Laws
+pub mod Lengths
+pub mod Steps
