@@ -1,7 +1,7 @@
 -- What is found in a table of the program is what is found in its rows.
-use Rattle.std.proofs.Common.{Bool, List, None, Option, Some, [], ap, cond, false, find, map, nat_eq, arith, nat_lt, refl, subst, sym, true, ℕ, ◌<◌, ◌^◌, ◌∙◌, ◌∷◌, ◌≡◌}
+use Rattle.std.proofs.Common.{Bool, List, None, Option, Some, [], ap, cond, false, find, map, nat_eq, arith, nat_lt, refl, subst, sym, true, ℕ, ◌<◌, ◌^◌, ◌||◌, ◌∙◌, ◌∷◌, ◌≡◌}
 use Rattle.std.proofs.{lemmas.Bool.and_parts, lemmas.Bool.ltb-true, lemmas.Option.none-some, lemmas.Option.same_Some}
-use Rattle.std.specs.{List.list_all, Option.option_map, Str.str_eq_ignore_ascii_case}
+use Rattle.std.specs.{List.list_all, List.list_any, Option.is_some, Option.option_map, Str.str_eq_ignore_ascii_case}
 use Rattle.psa_names.specs.{Names.name_of, Names.number_named, Rows.are_short, Rows.row, Tables.Names, declared.names.Name.Name}
 
 found_or : (b : Bool) (name : Name) (rest : Option Name) → option_map row (cond b (Some name) rest) ≡ cond b (Some (row name)) (option_map row rest)
@@ -49,3 +49,13 @@ short_found names n p (Some r) all e is =
 
 pub named_short : (text : List ℕ) (names : Names) (n : ℕ) → are_short names ≡ true → Some n ≡ number_named names text → n < 2 ^ 16
 named_short text names n all is = short_found names n _ _ all refl is
+
+some_found : (n : ℕ) (r : ℕ × List ℕ) (rs : Names) (b : Bool) → is_some (name_of rs n) ≡ list_any (λ k. nat_eq k n) (map (λ (r : ℕ × List ℕ). r.0) rs) →
+    is_some (option_map (λ (r : ℕ × List ℕ). r.1) (cond b (Some r) (find (λ r. nat_eq r.0 n) rs))) ≡ (b || list_any (λ k. nat_eq k n) (map (λ (r : ℕ × List ℕ). r.0) rs))
+some_found n r rs true h = refl
+some_found n r rs false h = h
+
+-- a number has a name just where it is a table's
+pub is_found : (n : ℕ) (names : Names) → is_some (name_of names n) ≡ list_any (λ k. nat_eq k n) (map (λ (r : ℕ × List ℕ). r.0) names)
+is_found n [] = refl
+is_found n (r ∷ rs) = some_found n r rs (nat_eq r.0 n) (is_found n rs)

@@ -6,3 +6,4 @@ mod ReadBack
 mod Flags
 mod Joined
 mod Tags
+mod Nearer

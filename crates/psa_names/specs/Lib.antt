@@ -4,3 +4,4 @@ pub mod Usages
 pub mod Algorithms
 pub mod Rows
 pub mod Laws
+pub mod Near

@@ -1,5 +1,5 @@
--- The names of numbers (PSA Certified Crypto API 1.2, chapters 9 and 10), without the prefixes PSA_KEY_TYPE_, PSA_KEY_USAGE_,
--- PSA_ALG_, PSA_KEY_LIFETIME_ and PSA_KEY_DERIVATION_INPUT_. The first four are those of appendix B too.
+-- The names of numbers (PSA Certified Crypto API 1.2, chapters 9 and 10; types and algorithms also in appendix B), without
+-- their prefixes PSA_KEY_TYPE_, PSA_KEY_USAGE_, PSA_ALG_, PSA_KEY_LIFETIME_ and PSA_KEY_DERIVATION_INPUT_.
 use Rattle.std.specs.Prelude.{ℕ, List, [], ◌∷◌, codes}
 
 -- numbers beside their names
@@ -59,7 +59,7 @@ algorithms =
     ∷ (0x0880010b, codes "PBKDF2_HMAC(SHA_512)")
     ∷ []
 
--- behind an `@` the location, where it isn't the local one
+-- a persistence, and behind an `@` its location where it isn't the local one (this project's own way to write both)
 unfoldable pub lifetimes : Names
 lifetimes = (0, codes "VOLATILE") ∷ (1, codes "PERSISTENT") ∷ (0x100, codes "VOLATILE@SECURE_ELEMENT") ∷ []
 

@@ -73,17 +73,13 @@ fn row_of(names: &[Name], base: u32) -> Option<&Name>
 fn push_tag(out: &mut Vec<u8>, tag: Tag) -> Result<(), AllocError>
     ensures { OnOk result (out.new.items ≡ out.old.items ++ tag_text tag) }
 {
-    match tag {
-        Tag::Whole => Ok(()),
-        Tag::Cut(length) => {
-            out.push(b'/')?;
-            out.extend_from_slice(Buffer::new().format(length).as_bytes())
-        }
-        Tag::AtLeast(length) => {
-            out.extend_from_slice(b">=")?;
-            out.extend_from_slice(Buffer::new().format(length).as_bytes())
-        }
-    }
+    let (mark, length): (&[u8], u8) = match tag {
+        Tag::Whole => return Ok(()),
+        Tag::Cut(length) => (b"/", length),
+        Tag::AtLeast(length) => (b">=", length),
+    };
+    out.extend_from_slice(mark)?;
+    out.extend_from_slice(Buffer::new().format(length).as_bytes())
 }
 
 /// An algorithm by its name with the tag behind it, or in hex.

@@ -1,6 +1,6 @@
 // Laws of reading and writing.
 ghost use Rattle.std.specs.Prelude.{◌^◌};
-ghost use Rattle.psa_names.specs.{Laws.IsReadBack, Laws.TakesNumbers, Names.key_type_text, Names.lifetime_text, Names.read_key_type, Names.read_lifetime, Names.read_step, Names.step_text, Usages.read_usage, Usages.usage_text, Algorithms.algorithm_text, Algorithms.read_algorithm};
+ghost use Rattle.psa_names.specs.{Laws.AreBasesNamed, Laws.AreTypesNamed, Laws.IsReadBack, Laws.TakesNumbers, Names.key_type_text, Names.lifetime_text, Names.read_key_type, Names.read_lifetime, Names.read_step, Names.step_text, Usages.read_usage, Usages.usage_text, Algorithms.algorithm_text, Algorithms.read_algorithm};
 
 /// What is written of a number, of whatever kind, reads back to it.
 pub fn written_is_read()
@@ -18,4 +18,10 @@ pub fn numbers_come_first()
     ensures algorithms { TakesNumbers 8 (2 ^ 32) read_algorithm }
     ensures lifetimes { TakesNumbers 8 (2 ^ 32) read_lifetime }
     ensures steps { TakesNumbers 4 (2 ^ 16) read_step }
+{}
+
+/// Each type and each algorithm that is built has a name.
+pub fn all_are_named()
+    ensures key_types { AreTypesNamed }
+    ensures algorithms { AreBasesNamed }
 {}
