@@ -7,3 +7,4 @@ mod Flags
 mod Joined
 mod Tags
 mod Nearer
+mod Vectors
