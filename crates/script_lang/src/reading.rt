@@ -87,7 +87,7 @@ impl Reading {
         ensures err { IfErr result (λ e. e ≡ Memory) }
     {
         Ok(Reading {
-            lines: Vec::new(alloc),
+            lines: Vec::with_capacity(alloc, LINE_LIMIT as usize)?,
             sessions: new_sessions(alloc)?,
         })
     }
