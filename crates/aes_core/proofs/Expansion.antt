@@ -1,11 +1,30 @@
 -- The key schedule, word by word.
 use Rattle.aes_core.proofs.Common.{IsKey, List, [], add_word, ap, ap₂, arith, bit_xor, word_bytes, eq-eqb, expanded, get_or-take, key_schedule, length, length-append, next_word, power_of_x, refl, rot_word, round_count, schedule_core, set, slice_index, sub_word, suc, sym, take, take-append-le, take-length, take-take, take_more_set, xor_words, zero, ℕ, ◌%◌, ◌*◌, ◌++◌, ◌+◌, ◌-◌, ◌/◌, ◌<◌, ◌∙◌, ◌∷◌, ◌≡◌, ◌≤◌}
 use Rattle.aes_core.proofs.WordBytes.{bytes_of-take, bytes_of-append, bytes_of_xor, word_at_is}
+use Rattle.std.proofs.lemmas.Nat.{div-add-mod', mod-mul-add}
 
 -- the first of the three cases
 pub core_at_start : (words i : ℕ) (t substituted word : List ℕ) (k : ℕ) → i % words ≡ 0 → substituted ≡ sub_word (rot_word t) → k ≡ power_of_x (i / words - 1)
     → word ≡ xor_words substituted (k ∷ 0 ∷ 0 ∷ 0 ∷ []) → word ≡ schedule_core words i t
 core_at_start words i t substituted word k e es ek ew = rw (eq-eqb (i % words) 0 e, ew, es, ek) refl
+
+-- the place of a word among so many, counted from the first word after the key
+pub first_place : (words : ℕ) → 0 < words → 0 ≡ words % words
+first_place words some =
+    let whole : words ≡ 1 * words + 0 = omega arith in
+    sym (ap (λ (n : ℕ). n % words) whole ∙ mod-mul-add 1 words 0 some)
+
+-- the place of the next word
+pub next_place : (words turn i : ℕ) → 0 < words → turn ≡ i % words → turn + 1 < words → turn + 1 ≡ (i + 1) % words
+next_place words turn i some e within =
+    let split : i / words * words + turn ≡ i = rw e (div-add-mod' i words) in
+    sym (ap (λ (n : ℕ). n % words) (omega (arith, split)) ∙ mod-mul-add (i / words) words (turn + 1) within)
+
+pub last_place : (words turn i : ℕ) → 0 < words → turn ≡ i % words → turn + 1 ≡ words → 0 ≡ (i + 1) % words
+last_place words turn i some e end =
+    let split : i / words * words + turn ≡ i = rw e (div-add-mod' i words) in
+    let whole : i + 1 ≡ (i / words + 1) * words + 0 = grind (arith, split, end) in
+    sym (ap (λ (n : ℕ). n % words) whole ∙ mod-mul-add (i / words + 1) words 0 some)
 
 -- the next word sees only the words before it
 pub next_word_of_taken : (words i : ℕ) (s : List ℕ) → 4 ≤ words → words ≤ i → next_word words (take (4 * i) s) i ≡ next_word words s i

@@ -1,7 +1,7 @@
 // The key expansion (FIPS 197 section 5.2). A schedule is an array of words, first byte highest, with
 // room for the 60 words of the longest one.
 
-ghost use Rattle.std.specs.Prelude.{◌≡◌, ◌+◌, ◌-◌, ◌*◌, ◌/◌, ◌<◌, ◌≤◌, [], ◌∷◌, length, take};
+ghost use Rattle.std.specs.Prelude.{◌≡◌, ◌%◌, ◌+◌, ◌-◌, ◌*◌, ◌/◌, ◌<◌, ◌≤◌, [], ◌∷◌, ℕ, length, take};
 ghost use Rattle.crypto_specs.specs.Prelude.{IsKey, xor_words, sub_word, rot_word, schedule_core, next_word, key_schedule, round_count};
 ghost use Rattle.aes_core.specs.Words.{word_bytes};
 
@@ -34,35 +34,47 @@ fn rot_word(t: [u8; 4]) -> [u8; 4]
     [t[1], t[2], t[3], t[0]]
 }
 
-// What is xored into the word `words` before word `i`, where `t` is the word before it.
-fn schedule_core(words: usize, i: usize, t: [u8; 4]) -> [u8; 4]
+// What is xored into the word `words` before word `i`, where `t` is the word before it, and `turn` the place of word `i` among
+// so many words.
+fn schedule_core(words: usize, i: usize, turn: usize, t: u32) -> u32
     requires low { 4 ≤ words }
     requires high { words ≤ i }
     requires small { i < 11 * words }
-    ensures { result ≡ schedule_core words i t }
+    requires place { turn ≡ i % words }
+    ensures { word_bytes (result ∷ []) ≡ schedule_core words i (word_bytes (t ∷ [])) }
 {
-    if i % words == 0 {
-        xor_words(
-            sub_word(rot_word(t)),
+    if turn == 0 {
+        let core = xor_words(
+            sub_word(rot_word(t.to_be_bytes())),
             [ROUND_CONSTANTS[i / words - 1], 0, 0, 0],
-        )
-    } else if words > 6 && i % words == 4 {
-        sub_word(t)
-    } else {
-        t
+        );
+        return word_of(&core);
     }
+    if words > 6 && turn == 4 {
+        return word_of(&sub_word(t.to_be_bytes()));
+    }
+    t
 }
 
 // Word `i` of the schedule, from the words before it.
-fn next_word(schedule: &[u32; 60], words: usize, i: usize) -> u32
+fn next_word(schedule: &[u32; 60], words: usize, i: usize, turn: usize) -> u32
     requires low { 4 ≤ words }
     requires high { words ≤ i }
     requires small { i < 11 * words }
     requires end { i < 60 }
+    requires place { turn ≡ i % words }
     ensures { word_bytes (result ∷ []) ≡ next_word words (word_bytes schedule.now) i }
 {
-    let core = schedule_core(words, i, schedule[i - 1].to_be_bytes());
-    schedule[i - words] ^ word_of(&core)
+    schedule[i - words] ^ schedule_core(words, i, turn, schedule[i - 1])
+}
+
+// The place among so many words of the word after that of another place.
+fn next_turn(words: usize, turn: usize) -> usize
+    requires { turn < words }
+    ensures below { result < words }
+    ensures next { (i : ℕ) → turn ≡ i % words → result ≡ (i + 1) % words }
+{
+    if turn + 1 == words { 0 } else { turn + 1 }
 }
 
 // The words of a key, and zeros after them.
@@ -87,9 +99,12 @@ pub(crate) fn key_expansion(key: &[u8], rounds: usize) -> [u32; 60]
 {
     let words = rounds - 6;
     let mut schedule = with_room(key);
+    let mut turn = 0;
     'words: for i in words..4 * (rounds + 1) {
-        let word = next_word(&schedule, words, i);
+        let word = next_word(&schedule, words, i, turn);
         schedule[i] = word;
+        let next = next_turn(words, turn);
+        turn = next;
     }
     schedule
 }
