@@ -2,11 +2,11 @@
 
 ghost use Rattle.std.specs.{Prelude.◌≡◌, Prelude.[], Prelude.◌∷◌, Int.byte_at};
 ghost use Rattle.crypto_specs.specs.Prelude.{inv_sbox, inv_sub_bytes, inv_shift_rows, inv_mix_columns};
-ghost use Rattle.aes_core.specs.Words.{word_bytes, inv_mixed_word};
+ghost use Rattle.aes_core.specs.Words.{word_bytes};
 
 use crate::columns::word_of;
 use crate::inv_mixed_tables::inv_mixed_column;
-use crate::tables::{inv_sub_byte, sub_byte};
+use crate::tables::inv_sub_byte;
 
 // InvShiftRows, InvSubBytes and InvMixColumns.
 pub(crate) fn inv_mixed_columns(s: [u32; 4]) -> [u32; 4]
@@ -42,13 +42,4 @@ pub(crate) fn inv_last_columns(s: [u32; 4]) -> [u32; 4]
         inv_last_column(s[2], s[1], s[0], s[3]),
         inv_last_column(s[3], s[2], s[1], s[0]),
     ]
-}
-
-// InvMixColumns of one column, by the tables, whose InvSubBytes the S-box takes back.
-pub(crate) fn inv_mixed_word(column: u32) -> u32
-    ensures { word_bytes (result ∷ []) ≡ inv_mixed_word (word_bytes (column ∷ [])) }
-{
-    let [a, b, c, d] = column.to_be_bytes();
-    let boxed = word_of(&[sub_byte(a), sub_byte(b), sub_byte(c), sub_byte(d)]);
-    inv_mixed_column(boxed, boxed, boxed, boxed)
 }

@@ -3,7 +3,7 @@
 ghost use Rattle.std.specs.Prelude.{◌<◌, ◌≤◌};
 ghost use Rattle.aes_core.specs.KeyFields.{IsInvScheduleOf};
 
-use crate::inv_columns::inv_mixed_word;
+use crate::inv_word_tables::inv_mixed_word;
 
 // The first and the last round key stay, and InvMixColumns is taken of those between them.
 pub(crate) fn inv_key_expansion(schedule: &[u32; 60], rounds: usize) -> [u32; 60]

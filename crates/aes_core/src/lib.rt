@@ -20,6 +20,7 @@ mod columns;
 mod inv_columns;
 mod inv_mixed_tables;
 mod inv_schedule;
+mod inv_word_tables;
 mod mixed_tables;
 mod rounds;
 mod schedule;
