@@ -4,7 +4,7 @@ use Rattle.std.proofs.{lemmas.Bool.and_from, lemmas.Bool.and_parts, lemmas.Grind
 use Rattle.std.specs.{Fmt.digits, Int.Bits.and_zero_r, Int.bit_at, List.join_with_byte, List.list_all, List.slice_split, Option.option_or}
 use Rattle.memchr.specs.Find.{IsFirstByte, is_byte}
 use Rattle.script_lang.specs.Numbers.{digit_in, number, number_from}
-use Rattle.psa_names.specs.{Algorithms.gives, Names.number_named, Tables.Names, Tables.usages, Usages.flag_texts, Usages.has_flag, Usages.names_of, Usages.read_flag, Usages.read_usage, Usages.unnamed, Usages.usage_text, Usages.with_flags}
+use Rattle.psa_names.specs.{Algorithms.gives, Names.number_named, Tables.NameTable, Tables.usages, Usages.flag_texts, Usages.states_flag, Usages.names_of, Usages.read_flag, Usages.read_usage, Usages.unnamed, Usages.usage_text, Usages.with_flags}
 use Rattle.psa_names.proofs.{HexText.hex_reads, Places.parts_at, ReadBack.gives-true, ReadBack.hex_is_read}
 
 abbrev pub is_comma : ℕ → Bool
@@ -127,7 +127,7 @@ flag_there n flag false one e =
 abbrev is_flag : ℕ × List ℕ → Bool
 is_flag r = gives (read_flag r.1) r.0 && is_power r.0
 
-abbrev all_bits : ℕ → Names → ℕ
+abbrev all_bits : ℕ → NameTable → ℕ
 all_bits x [] = x
 all_bits x (r ∷ rs) = all_bits (bit_or x r.0) rs
 
@@ -140,19 +140,19 @@ with_one n x r rest tail false reads is =
 with_one n x r rest tail true reads is =
     ap (λ y. with_flags y (rest ++ tail)) (sym (or_zero (bit_and n x)) ∙ ap (bit_or (bit_and n x)) (sym is) ∙ and_or_both n x r.0)
 
-names_step : (n : ℕ) (r : ℕ × List ℕ) (rs : Names) (b : Bool) →
-    map (λ (q : ℕ × List ℕ). q.1) (cond b (r ∷ filter (λ (q : ℕ × List ℕ). has_flag n q.0) rs) (filter (λ (q : ℕ × List ℕ). has_flag n q.0) rs))
+names_step : (n : ℕ) (r : ℕ × List ℕ) (rs : NameTable) (b : Bool) →
+    map (λ (q : ℕ × List ℕ). q.1) (cond b (r ∷ filter (λ (q : ℕ × List ℕ). states_flag n q.0) rs) (filter (λ (q : ℕ × List ℕ). states_flag n q.0) rs))
     ≡ cond b (r.1 ∷ names_of rs n) (names_of rs n)
 names_step n r rs true = refl
 names_step n r rs false = refl
 
-with_names : (n x : ℕ) (rows : Names) (tail : List (List ℕ)) → list_all is_flag rows ≡ true →
+with_names : (n x : ℕ) (rows : NameTable) (tail : List (List ℕ)) → list_all is_flag rows ≡ true →
     with_flags (bit_and n x) (names_of rows n ++ tail) ≡ with_flags (bit_and n (all_bits x rows)) tail
 with_names n x [] tail h = refl
 with_names n x (r ∷ rs) tail h =
     let parts = and_parts (is_flag r) (list_all is_flag rs) h in
     let one = and_parts (gives (read_flag r.1) r.0) (is_power r.0) parts.0 in
-    ap (λ l. with_flags (bit_and n x) (l ++ tail)) (names_step n r rs (has_flag n r.0))
+    ap (λ l. with_flags (bit_and n x) (l ++ tail)) (names_step n r rs (states_flag n r.0))
     ∙ with_one n x r (names_of rs n) tail (eqb (bit_and n r.0) 0) (gives-true (read_flag r.1) r.0 one.0) (flag_there n r.0 (eqb (bit_and n r.0) 0) one.1 refl)
     ∙ with_names n (bit_or x r.0) rs tail parts.1
 
@@ -186,13 +186,13 @@ one_lacks : (b : Bool) (x : List ℕ) (xs tail : List (List ℕ)) → lacks_comm
 one_lacks true x xs tail h t = and_from _ _ h t
 one_lacks false x xs tail h t = t
 
-names_lack : (n : ℕ) (rows : Names) (tail : List (List ℕ)) → list_all (λ (r : ℕ × List ℕ). lacks_comma r.1) rows ≡ true → list_all lacks_comma tail ≡ true →
+names_lack : (n : ℕ) (rows : NameTable) (tail : List (List ℕ)) → list_all (λ (r : ℕ × List ℕ). lacks_comma r.1) rows ≡ true → list_all lacks_comma tail ≡ true →
     list_all lacks_comma (names_of rows n ++ tail) ≡ true
 names_lack n [] tail h t = t
 names_lack n (r ∷ rs) tail h t =
     let parts = and_parts (lacks_comma r.1) (list_all (λ (q : ℕ × List ℕ). lacks_comma q.1) rs) h in
-    ap (λ l. list_all lacks_comma (l ++ tail)) (names_step n r rs (has_flag n r.0))
-    ∙ one_lacks (has_flag n r.0) r.1 (names_of rs n) tail parts.0 (names_lack n rs tail parts.1 t)
+    ap (λ l. list_all lacks_comma (l ++ tail)) (names_step n r rs (states_flag n r.0))
+    ∙ one_lacks (states_flag n r.0) r.1 (names_of rs n) tail parts.0 (names_lack n rs tail parts.1 t)
 
 usages_lack : list_all (λ (r : ℕ × List ℕ). lacks_comma r.1) usages ≡ true
 unfolding usages

@@ -3,7 +3,7 @@ use Rattle.std.proofs.Common.{Bool, List, [], append_assoc, ap, bit_and, cond, e
 use Rattle.std.proofs.lemmas.List.Elements.{filter_more}
 use Rattle.std.proofs.{lemmas.Bool.ne_eqb, lemmas.List.append-nil, lemmas.List.map-append, lemmas.List.take_all}
 use Rattle.std.specs.{Fmt.digits, List.join_with_byte}
-use Rattle.psa_names.specs.{Rows.row, Tables.usages, Usages.flag_texts, Usages.has_flag, Usages.names_of, Usages.unnamed, declared.names.Name.Name}
+use Rattle.psa_names.specs.{Rows.name_row, Tables.usages, Usages.flag_texts, Usages.states_flag, Usages.names_of, Usages.unnamed, declared.names.Name.Name}
 
 abbrev pub are_none : List (List ℕ) → Bool
 are_none [] = true
@@ -31,30 +31,30 @@ joined_more text next is_first xs x so is = record {
 
 -- the names of a usage's flags, from the program's table
 abbrev pub texts_in : ℕ → List Name → List (List ℕ)
-texts_in usage names = map (λ (n : Name). n.text.now) (filter (λ (n : Name). has_flag usage n.number) names)
+texts_in usage names = map (λ (n : Name). n.text.now) (filter (λ (n : Name). states_flag usage n.number) names)
 
-texts_step : (usage : ℕ) (n : Name) (ns : List Name) (b : Bool) → texts_in usage ns ≡ names_of (map row ns) usage →
-    map (λ (n : Name). n.text.now) (cond b (n ∷ filter (λ (n : Name). has_flag usage n.number) ns) (filter (λ (n : Name). has_flag usage n.number) ns))
-    ≡ map (λ (r : ℕ × List ℕ). r.1) (cond b (row n ∷ filter (λ (r : ℕ × List ℕ). has_flag usage r.0) (map row ns)) (filter (λ (r : ℕ × List ℕ). has_flag usage r.0) (map row ns)))
+texts_step : (usage : ℕ) (n : Name) (ns : List Name) (b : Bool) → texts_in usage ns ≡ names_of (map name_row ns) usage →
+    map (λ (n : Name). n.text.now) (cond b (n ∷ filter (λ (n : Name). states_flag usage n.number) ns) (filter (λ (n : Name). states_flag usage n.number) ns))
+    ≡ map (λ (r : ℕ × List ℕ). r.1) (cond b (name_row n ∷ filter (λ (r : ℕ × List ℕ). states_flag usage r.0) (map name_row ns)) (filter (λ (r : ℕ × List ℕ). states_flag usage r.0) (map name_row ns)))
 texts_step usage n ns true h = ap (λ l. n.text.now ∷ l) h
 texts_step usage n ns false h = h
 
-pub texts_are_names : (usage : ℕ) (names : List Name) → texts_in usage names ≡ names_of (map row names) usage
+pub texts_are_names : (usage : ℕ) (names : List Name) → texts_in usage names ≡ names_of (map name_row names) usage
 texts_are_names usage [] = refl
-texts_are_names usage (n ∷ ns) = texts_step usage n ns (has_flag usage n.number) (texts_are_names usage ns)
+texts_are_names usage (n ∷ ns) = texts_step usage n ns (states_flag usage n.number) (texts_are_names usage ns)
 
 one_text : (b : Bool) (n : Name) → map (λ (m : Name). m.text.now) (cond b (n ∷ []) []) ≡ cond b (n.text.now ∷ []) []
 one_text true n = refl
 one_text false n = refl
 
 texts_more : (usage i : ℕ) (names : List Name) (d : Name) → i < length names →
-    texts_in usage (take (i + 1) names) ≡ texts_in usage (take i names) ++ cond (has_flag usage (get_or names i d).number) ((get_or names i d).text.now ∷ []) []
+    texts_in usage (take (i + 1) names) ≡ texts_in usage (take i names) ++ cond (states_flag usage (get_or names i d).number) ((get_or names i d).text.now ∷ []) []
 texts_more usage i names d h =
-    ap (map (λ (m : Name). m.text.now)) (filter_more (λ (m : Name). has_flag usage m.number) names i d h)
+    ap (map (λ (m : Name). m.text.now)) (filter_more (λ (m : Name). states_flag usage m.number) names i d h)
     ∙ map-append (λ (m : Name). m.text.now) _ _
-    ∙ ap (λ l. texts_in usage (take i names) ++ l) (one_text (has_flag usage (get_or names i d).number) (get_or names i d))
+    ∙ ap (λ l. texts_in usage (take i names) ++ l) (one_text (states_flag usage (get_or names i d).number) (get_or names i d))
 
-flag_is : (usage flag : ℕ) (b : Bool) → eqb (bit_and usage flag) 0 ≡ b → has_flag usage flag ≡ not b
+flag_is : (usage flag : ℕ) (b : Bool) → eqb (bit_and usage flag) 0 ≡ b → states_flag usage flag ≡ not b
 flag_is usage flag b e = ap not e
 
 -- one more row of the table, whose flag is there
@@ -78,11 +78,11 @@ pub joined_at : (text other : List ℕ) (is_first other_first : Bool) (parts : L
     IsJoined other other_first parts → IsJoined text is_first parts
 joined_at text other is_first other_first parts e f so = record { joined = e ∙ so.joined; first = f ∙ so.first }
 
-all_names : (usage i : ℕ) (names : List Name) → map row names ≡ usages → length names ≤ i → texts_in usage (take i names) ≡ names_of usages usage
+all_names : (usage i : ℕ) (names : List Name) → map name_row names ≡ usages → length names ≤ i → texts_in usage (take i names) ≡ names_of usages usage
 all_names usage i names rows h = ap (texts_in usage) (take_all i names h) ∙ texts_are_names usage names ∙ ap (λ l. names_of l usage) rows
 
 -- the bits without a name, where there are some
-pub with_hex : (text out hex : List ℕ) (is_first : Bool) (usage i : ℕ) (names : List Name) → map row names ≡ usages → length names ≤ i →
+pub with_hex : (text out hex : List ℕ) (is_first : Bool) (usage i : ℕ) (names : List Name) → map name_row names ≡ usages → length names ≤ i →
     IsJoined text is_first (texts_in usage (take i names)) → (unnamed usage ≡ 0 → ⊥) → hex ≡ digits 16 false (unnamed usage) → out ≡ text ++ cond is_first hex (44 ∷ hex) →
     out ≡ join_with_byte 44 (flag_texts usage)
 with_hex text out hex is_first usage i names rows h so some is e =
@@ -92,7 +92,7 @@ with_hex text out hex is_first usage i names rows h so some is e =
     ∙ ap (λ x. join_with_byte 44 (names_of usages usage ++ (x ∷ []))) is
     ∙ ap (λ b. join_with_byte 44 (names_of usages usage ++ cond b [] (digits 16 false (unnamed usage) ∷ []))) (sym (ne_eqb (unnamed usage) 0 some))
 
-pub without_hex : (text : List ℕ) (is_first : Bool) (usage i : ℕ) (names : List Name) → map row names ≡ usages → length names ≤ i →
+pub without_hex : (text : List ℕ) (is_first : Bool) (usage i : ℕ) (names : List Name) → map name_row names ≡ usages → length names ≤ i →
     IsJoined text is_first (texts_in usage (take i names)) → unnamed usage ≡ 0 → text ≡ join_with_byte 44 (flag_texts usage)
 without_hex text is_first usage i names rows h so none =
     so.joined

@@ -5,7 +5,7 @@ use Rattle.std.specs.{Fmt.digits, List.list_all, List.position_or_len, Option.is
 use Rattle.alg_encoding.proofs.Made.{permitted-bounds}
 use Rattle.alg_encoding.specs.{Encoding.at_least_of, Encoding.base_of, Encoding.lengths_of, Encoding.truncated_of, Table.has_length, Table.permits_length}
 use Rattle.script_lang.specs.Numbers.{digit_in, number, number_from}
-use Rattle.psa_names.specs.{Algorithms.algorithm_name, Algorithms.algorithm_named, Algorithms.algorithm_text, Algorithms.gives, Algorithms.length_behind, Algorithms.made_with, Algorithms.name_length, Algorithms.read_algorithm, Algorithms.read_tag, Algorithms.stated_tag, Algorithms.tag_of, Algorithms.tag_text, Names.number_named, Rows.row, Tables.algorithms, declared.algorithms.Tag.Tag, declared.names.Name.Name}
+use Rattle.psa_names.specs.{Algorithms.algorithm_name, Algorithms.algorithm_named, Algorithms.algorithm_text, Algorithms.gives, Algorithms.length_behind, Algorithms.tagged, Algorithms.name_length, Algorithms.read_algorithm, Algorithms.read_tag, Algorithms.stated_tag, Algorithms.tag_of, Algorithms.tag_text, Names.number_named, Rows.name_row, Tables.algorithms, declared.algorithms.Tag.Tag, declared.names.Name.Name}
 use Rattle.psa_names.specs.declared.algorithms.Tag.TheVariants.{Whole, Cut, AtLeast}
 use Rattle.psa_names.proofs.{Found.find_facts, Found.found_row, HexText.decimal_reads, HexText.hex_reads, ReadBack.gives-true}
 
@@ -14,15 +14,15 @@ use Rattle.psa_names.proofs.{Found.find_facts, Found.found_row, HexText.decimal_
 abbrev pub text_by : ℕ → Option (ℕ × List ℕ) → List ℕ
 text_by n found = unwrap_or (option_and_then (λ (r : ℕ × List ℕ). option_map (λ tag. r.1 ++ tag_text tag) (tag_of r.0 n)) found) (digits 16 false n)
 
-pub text_found : (n base : ℕ) (names : List Name) (found : Option Name) → map row names ≡ algorithms → base ≡ base_of n →
-    found ≡ find (λ m. nat_eq (base_of m.number) base) names → text_by n (option_map row found) ≡ algorithm_text n
+pub text_found : (n base : ℕ) (names : List Name) (found : Option Name) → map name_row names ≡ algorithms → base ≡ base_of n →
+    found ≡ find (λ m. nat_eq (base_of m.number) base) names → text_by n (option_map name_row found) ≡ algorithm_text n
 unfolding algorithm_text algorithm_name
 text_found n base names found rows same is =
-    ap (λ o. text_by n (option_map row o)) is
+    ap (λ o. text_by n (option_map name_row o)) is
     ∙ ap (text_by n) (found_row (λ r. nat_eq (base_of r.0) base) names ∙ ap (find (λ r. nat_eq (base_of r.0) base)) rows)
     ∙ ap (λ b. text_by n (find (λ r. nat_eq (base_of r.0) b) algorithms)) same
 
-pub text_tagged : (n base whole : ℕ) (names : List Name) (name : Name) (tag : Option Tag) → map row names ≡ algorithms → base ≡ base_of n →
+pub text_tagged : (n base whole : ℕ) (names : List Name) (name : Name) (tag : Option Tag) → map name_row names ≡ algorithms → base ≡ base_of n →
     Some name ≡ find (λ m. nat_eq (base_of m.number) base) names → whole ≡ name.number → tag ≡ tag_of whole n →
     unwrap_or (option_map (λ t. name.text.now ++ tag_text t) tag) (digits 16 false n) ≡ algorithm_text n
 text_tagged n base whole names name tag rows same is number tagged =
@@ -117,7 +117,7 @@ begins_marked Whole = tt
 begins_marked (Cut l) = refl
 begins_marked (AtLeast l) = refl
 
-tag_is_short : (tag : Tag) (whole n : ℕ) → made_with tag whole ≡ Some n → IsShort tag
+tag_is_short : (tag : Tag) (whole n : ℕ) → tagged tag whole ≡ Some n → IsShort tag
 unfolding truncated_of at_least_of
 tag_is_short Whole whole n h = tt
 tag_is_short (Cut l) whole n h = omega (arith, (permitted-bounds whole l (cond_some (permits_length (lengths_of whole) l) _ n h).0).1)
@@ -125,15 +125,15 @@ tag_is_short (AtLeast l) whole n h =
     let parts = and_parts (has_length (lengths_of whole) && nat_le 1 l) (nat_le l 63) (cond_some (has_length (lengths_of whole) && nat_le 1 l && nat_le l 63) _ n h).0 in
     omega (arith, leb-true l 63 parts.1)
 
-made_case : (same made : Bool) (whole n : ℕ) (stated tag : Tag) → eqb whole n ≡ same → gives (made_with stated whole) n ≡ made →
-    cond same (Some Whole) (cond made (Some stated) None) ≡ Some tag → made_with tag whole ≡ Some n
-made_case true made whole n stated tag e f h = subst (λ t. made_with t whole ≡ Some n) (same_Some Whole tag h) (ap Some (eqb-true whole n e))
-made_case false true whole n stated tag e f h = subst (λ t. made_with t whole ≡ Some n) (same_Some stated tag h) (gives-true (made_with stated whole) n f)
+made_case : (same made : Bool) (whole n : ℕ) (stated tag : Tag) → eqb whole n ≡ same → gives (tagged stated whole) n ≡ made →
+    cond same (Some Whole) (cond made (Some stated) None) ≡ Some tag → tagged tag whole ≡ Some n
+made_case true made whole n stated tag e f h = subst (λ t. tagged t whole ≡ Some n) (same_Some Whole tag h) (ap Some (eqb-true whole n e))
+made_case false true whole n stated tag e f h = subst (λ t. tagged t whole ≡ Some n) (same_Some stated tag h) (gives-true (tagged stated whole) n f)
 made_case false false whole n stated tag e f h = absurd (none-some tag h)
 
-tag_makes : (whole n : ℕ) (tag : Tag) → tag_of whole n ≡ Some tag → made_with tag whole ≡ Some n
+tag_makes : (whole n : ℕ) (tag : Tag) → tag_of whole n ≡ Some tag → tagged tag whole ≡ Some n
 unfolding tag_of
-tag_makes whole n tag h = made_case (eqb whole n) (gives (made_with (stated_tag n) whole) n) whole n (stated_tag n) tag refl refl h
+tag_makes whole n tag h = made_case (eqb whole n) (gives (tagged (stated_tag n) whole) n) whole n (stated_tag n) tag refl refl h
 
 -- ---- an algorithm reads back
 
@@ -150,9 +150,9 @@ is_none-true None h = refl
 is_none-true (Some n) h = absurd (cc)
 
 abbrev name_and_tag : ℕ → List ℕ → Option ℕ
-name_and_tag k text = option_and_then (λ whole. option_and_then (λ tag. made_with tag whole) (read_tag (drop k text))) (number_named algorithms (take k text))
+name_and_tag k text = option_and_then (λ whole. option_and_then (λ tag. tagged tag whole) (read_tag (drop k text))) (number_named algorithms (take k text))
 
-name_is_read : (r : ℕ × List ℕ) (tag : Tag) (n : ℕ) → is_known r ≡ true → made_with tag r.0 ≡ Some n → read_algorithm (r.1 ++ tag_text tag) ≡ Some n
+name_is_read : (r : ℕ × List ℕ) (tag : Tag) (n : ℕ) → is_known r ≡ true → tagged tag r.0 ≡ Some n → read_algorithm (r.1 ++ tag_text tag) ≡ Some n
 unfolding read_algorithm algorithm_named
 name_is_read r tag n known made =
     let text : List ℕ = r.1 ++ tag_text tag in
@@ -161,10 +161,10 @@ name_is_read r tag n known made =
     let none : number_from 16 0 text ≡ None = none_before 16 0 r.1 (tag_text tag) (is_none-true (number_from 16 0 r.1) front.1) in
     ap (λ o. option_or o (name_and_tag (name_length text) text)) (not_number 16 8 (2 ^ 32) text none)
     ∙ ap (λ k. name_and_tag k text) (ends_at r.1 (tag_text tag) parts.1 (begins_marked tag))
-    ∙ ap (λ name. option_and_then (λ whole. option_and_then (λ t. made_with t whole) (read_tag (drop (length r.1) text))) (number_named algorithms name)) (take_front r.1 (tag_text tag))
-    ∙ ap (λ rest. option_and_then (λ whole. option_and_then (λ t. made_with t whole) (read_tag rest)) (number_named algorithms r.1)) (drop_front r.1 (tag_text tag))
-    ∙ ap (λ o. option_and_then (λ whole. option_and_then (λ t. made_with t whole) (read_tag (tag_text tag))) o) (gives-true (number_named algorithms r.1) r.0 front.0)
-    ∙ ap (option_and_then (λ t. made_with t r.0)) (tag_is_read tag (tag_is_short tag r.0 n made))
+    ∙ ap (λ name. option_and_then (λ whole. option_and_then (λ t. tagged t whole) (read_tag (drop (length r.1) text))) (number_named algorithms name)) (take_front r.1 (tag_text tag))
+    ∙ ap (λ rest. option_and_then (λ whole. option_and_then (λ t. tagged t whole) (read_tag rest)) (number_named algorithms r.1)) (drop_front r.1 (tag_text tag))
+    ∙ ap (λ o. option_and_then (λ whole. option_and_then (λ t. tagged t whole) (read_tag (tag_text tag))) o) (gives-true (number_named algorithms r.1) r.0 front.0)
+    ∙ ap (option_and_then (λ t. tagged t r.0)) (tag_is_read tag (tag_is_short tag r.0 n made))
     ∙ made
 
 hex_is_algorithm : (n : ℕ) → n < 2 ^ 32 → read_algorithm (digits 16 false n) ≡ Some n

@@ -7,10 +7,10 @@ use Rattle.psa_names.specs.declared.algorithms.Tag.TheVariants.{Whole, Cut, AtLe
 
 -- the number that an algorithm and its tag make: PSA_ALG_TRUNCATED_MAC or PSA_ALG_AEAD_WITH_SHORTENED_TAG, and
 -- PSA_ALG_AT_LEAST_THIS_LENGTH_MAC or PSA_ALG_AEAD_WITH_AT_LEAST_THIS_LENGTH_TAG
-abbrev pub made_with : Tag → ℕ → Option ℕ
-made_with Whole whole = Some whole
-made_with (Cut length) whole = truncated_of whole length
-made_with (AtLeast length) whole = at_least_of whole length
+abbrev pub tagged : Tag → ℕ → Option ℕ
+tagged Whole whole = Some whole
+tagged (Cut length) whole = truncated_of whole length
+tagged (AtLeast length) whole = at_least_of whole length
 
 -- what stands behind an algorithm's name
 abbrev pub tag_text : Tag → List ℕ
@@ -30,7 +30,7 @@ gives None n = false
 unfoldable pub tag_of : (whole n : ℕ) → Option Tag
 tag_of whole n =
     if whole == n then Some Whole
-    else if gives (made_with (stated_tag n) whole) n then Some (stated_tag n)
+    else if gives (tagged (stated_tag n) whole) n then Some (stated_tag n)
     else None
 
 -- the name of a number's base, and the tag behind it
@@ -57,7 +57,7 @@ name_length text = position_or_len (λ c. c == 47 || c == 62) text
 
 unfoldable pub algorithm_named : List ℕ → Option ℕ
 algorithm_named text =
-    option_and_then (λ whole. option_and_then (λ tag. made_with tag whole) (read_tag (drop (name_length text) text)))
+    option_and_then (λ whole. option_and_then (λ tag. tagged tag whole) (read_tag (drop (name_length text) text)))
     (number_named algorithms (take (name_length text) text))
 
 unfoldable pub read_algorithm : List ℕ → Option ℕ

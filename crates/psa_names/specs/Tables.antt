@@ -3,10 +3,10 @@
 use Rattle.std.specs.Prelude.{ℕ, List, [], ◌∷◌, codes}
 
 -- numbers beside their names
-abbrev pub Names : Type 0
-Names = List (ℕ × List ℕ)
+abbrev pub NameTable : Type 0
+NameTable = List (ℕ × List ℕ)
 
-unfoldable pub key_types : Names
+unfoldable pub key_types : NameTable
 key_types =
     (0x1001, codes "RAW_DATA")
     ∷ (0x1100, codes "HMAC")
@@ -15,7 +15,7 @@ key_types =
     ∷ (0x2400, codes "AES")
     ∷ []
 
-unfoldable pub usages : Names
+unfoldable pub usages : NameTable
 usages =
     (0x1, codes "EXPORT")
     ∷ (0x2, codes "COPY")
@@ -31,7 +31,7 @@ usages =
     ∷ []
 
 -- an AEAD's name is the number of its full tag, 16 bytes
-unfoldable pub algorithms : Names
+unfoldable pub algorithms : NameTable
 algorithms =
     (0, codes "NONE")
     ∷ (0x02000008, codes "SHA_224")
@@ -60,10 +60,10 @@ algorithms =
     ∷ []
 
 -- a persistence, and behind an `@` its location where it isn't the local one (this project's own way to write both)
-unfoldable pub lifetimes : Names
+unfoldable pub lifetimes : NameTable
 lifetimes = (0, codes "VOLATILE") ∷ (1, codes "PERSISTENT") ∷ (0x100, codes "VOLATILE@SECURE_ELEMENT") ∷ []
 
-unfoldable pub steps : Names
+unfoldable pub steps : NameTable
 steps =
     (0x101, codes "SECRET")
     ∷ (0x102, codes "PASSWORD")

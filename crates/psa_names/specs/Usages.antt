@@ -1,16 +1,16 @@
 -- A usage by the names of its flags, with commas between them.
 use Rattle.std.specs.{Prelude.ℕ, Prelude.◌==◌, Prelude.◌^◌, Prelude.false, Prelude.Bool, Prelude.not, Prelude.bit_and, Prelude.bit_or, Prelude.if◌then◌else◌, Prelude.List, Prelude.[], Prelude.◌∷◌, Prelude.◌++◌, Prelude.map, Prelude.filter, Prelude.codes, Prelude.Option, Prelude.Some, Prelude.option_and_then, Fmt.digits, List.join_with_byte, List.slice_split}
-use Rattle.psa_names.specs.{Tables.Names, Tables.usages, Names.read_in}
+use Rattle.psa_names.specs.{Tables.NameTable, Tables.usages, Names.read_in}
 
-abbrev pub has_flag : ℕ → ℕ → Bool
-has_flag usage flag = not (bit_and usage flag == 0)
+abbrev pub states_flag : ℕ → ℕ → Bool
+states_flag usage flag = not (bit_and usage flag == 0)
 
 -- the bits that have no name
 abbrev pub unnamed : ℕ → ℕ
 unnamed usage = bit_and usage 0xffff00f8
 
-abbrev pub names_of : Names → ℕ → List (List ℕ)
-names_of names usage = map (λ r. r.1) (filter (λ r. has_flag usage r.0) names)
+abbrev pub names_of : NameTable → ℕ → List (List ℕ)
+names_of names usage = map (λ r. r.1) (filter (λ r. states_flag usage r.0) names)
 
 -- the names of the flags, and the bits that have none as one number in hex
 abbrev pub flag_texts : ℕ → List (List ℕ)

@@ -1,7 +1,7 @@
 // Algorithm numbers by the names of their algorithms.
 ghost use Rattle.std.specs.{Prelude.◌≡◌, Prelude.◌≤◌, Prelude.length, Prelude.◌==◌, Prelude.◌++◌, Prelude.IfOk, Prelude.OnErr, Prelude.OnOk, Prelude.decimal, Prelude.find, Prelude.map, Option.option_copied, Option.option_map};
 ghost use Rattle.alg_encoding.specs.Encoding.{base_of};
-ghost use Rattle.psa_names.specs.{Rows.row, Tables.algorithms, Algorithms.algorithm_named, Algorithms.algorithm_name, Algorithms.algorithm_text, Algorithms.length_behind, Algorithms.name_length, Algorithms.made_with, Algorithms.read_algorithm, Algorithms.read_tag, Algorithms.stated_tag, Algorithms.tag_of, Algorithms.tag_text};
+ghost use Rattle.psa_names.specs.{Rows.name_row, Tables.algorithms, Algorithms.algorithm_named, Algorithms.algorithm_name, Algorithms.algorithm_text, Algorithms.length_behind, Algorithms.name_length, Algorithms.tagged, Algorithms.read_algorithm, Algorithms.read_tag, Algorithms.stated_tag, Algorithms.tag_of, Algorithms.tag_text};
 
 use crate::names::{Name, number_named};
 use crate::numbers::number_of;
@@ -25,8 +25,8 @@ enum Tag {
 }
 
 /// The number that an algorithm and its tag make.
-fn made_with(tag: Tag, whole: Alg) -> Option<Alg>
-    ensures { option_map (λ algorithm. algorithm.0) result ≡ made_with tag whole.0 }
+fn tagged(tag: Tag, whole: Alg) -> Option<Alg>
+    ensures { option_map (λ algorithm. algorithm.0) result ≡ tagged tag whole.0 }
 {
     match tag {
         Tag::Whole => Some(whole),
@@ -55,7 +55,7 @@ fn tag_of(whole: Alg, algorithm: Alg) -> Option<Tag>
         return Some(Tag::Whole);
     }
     let tag = stated_tag(algorithm);
-    match made_with(tag, whole) {
+    match tagged(tag, whole) {
         Some(made) if made.number() == algorithm.number() => Some(tag),
         _ => None,
     }
@@ -155,7 +155,7 @@ fn algorithm_named(text: &[u8]) -> Option<Alg>
 {
     let (name, tag) = text.split_at(name_length(text));
     let whole = number_named(algorithms(), name)?;
-    made_with(read_tag(tag)?, Alg::of(whole))
+    tagged(read_tag(tag)?, Alg::of(whole))
 }
 
 /// The algorithm of 1 to 8 hex digits, or else of a name in letters of either case, behind which `/` and a length may stand,

@@ -1,6 +1,6 @@
 // The name that was meant.
 ghost use Rattle.std.specs.{Prelude.◌≡◌, Prelude.IfOk, Prelude.map, Char.to_ascii_uppercase, Option.option_map};
-ghost use Rattle.psa_names.specs.{Near.IsNear, Near.changes, Near.table_of, Near.texts_of, Rows.row};
+ghost use Rattle.psa_names.specs.{Near.IsNear, Near.letters_changed, Near.table_of, Near.name_texts, Rows.name_row};
 
 use crate::names::Name;
 use crate::tables::{algorithms, key_types, lifetimes, steps, usages};
@@ -20,7 +20,7 @@ pub enum Kind {
 
 impl Kind {
     fn names(self) -> &'static [Name]
-        ensures { map row result.now ≡ table_of self }
+        ensures { map name_row result.now ≡ table_of self }
     {
         match self {
             Kind::KeyType => key_types(),
@@ -47,7 +47,7 @@ fn nearest_of(
     names: &'static [Name],
     text: &[u8],
 ) -> Result<Option<&'static [u8]>, AllocError>
-    ensures { IfOk result (λ near. IsNear (texts_of (map row names.now)) text.now (option_map (λ name. name.now) near)) }
+    ensures { IfOk result (λ near. IsNear (name_texts (map name_row names.now)) text.now (option_map (λ name. name.now) near)) }
 {
     let capitals = capitals(alloc, text)?;
     let mut nearest = None;
@@ -66,7 +66,7 @@ fn nearest_of(
 /// where these are more than half of the text's letters for each. A usage's flags are asked for one by one, and an algorithm
 /// without the tag behind its name.
 pub fn nearest(alloc: Global, kind: Kind, text: &[u8]) -> Result<Option<&'static [u8]>, Memory>
-    ensures { IfOk result (λ near. IsNear (texts_of (table_of kind)) text.now (option_map (λ name. name.now) near)) }
+    ensures { IfOk result (λ near. IsNear (name_texts (table_of kind)) text.now (option_map (λ name. name.now) near)) }
 {
     match nearest_of(alloc, kind.names(), text) {
         Ok(near) => Ok(near),

@@ -1,6 +1,6 @@
 // The tables of names.
 ghost use Rattle.std.specs.Prelude.{◌≡◌, IsTrue, map};
-ghost use Rattle.psa_names.specs.Rows.{are_short, row};
+ghost use Rattle.psa_names.specs.Rows.{are_short, name_row};
 ghost use Rattle.psa_names.specs.Tables as table;
 
 use crate::names::Name;
@@ -75,34 +75,34 @@ const STEPS: &[Name] = names![
 ];
 
 pub(crate) fn key_types() -> &'static [Name]
-    ensures rows { map row result.now ≡ table.key_types }
-    ensures short { IsTrue (are_short (map row result.now)) }
+    ensures rows { map name_row result.now ≡ table.key_types }
+    ensures short { IsTrue (are_short (map name_row result.now)) }
 {
     KEY_TYPES
 }
 
 pub(crate) fn usages() -> &'static [Name]
-    ensures { map row result.now ≡ table.usages }
+    ensures { map name_row result.now ≡ table.usages }
 {
     USAGES
 }
 
 /// The algorithms that are built. An AEAD's name is the number of its full tag.
 pub(crate) fn algorithms() -> &'static [Name]
-    ensures { map row result.now ≡ table.algorithms }
+    ensures { map name_row result.now ≡ table.algorithms }
 {
     ALGORITHMS
 }
 
 pub(crate) fn lifetimes() -> &'static [Name]
-    ensures { map row result.now ≡ table.lifetimes }
+    ensures { map name_row result.now ≡ table.lifetimes }
 {
     LIFETIMES
 }
 
 pub(crate) fn steps() -> &'static [Name]
-    ensures rows { map row result.now ≡ table.steps }
-    ensures short { IsTrue (are_short (map row result.now)) }
+    ensures rows { map name_row result.now ≡ table.steps }
+    ensures short { IsTrue (are_short (map name_row result.now)) }
 {
     STEPS
 }

@@ -2,7 +2,7 @@
 ghost use Rattle.std.specs.Prelude.{◌≡◌, ◌++◌, false, IfOk, IsOk, OnErr, OnOk};
 ghost use Rattle.std.specs.Fmt.{digits};
 ghost use Rattle.std.specs.Prelude.{map};
-ghost use Rattle.psa_names.specs.{Names.text_in, Rows.row};
+ghost use Rattle.psa_names.specs.{Names.name_or_hex, Rows.name_row};
 
 use crate::names::{Name, name_of};
 use psa_status::Memory;
@@ -20,7 +20,7 @@ pub(crate) fn hex_text(alloc: Global, number: u32) -> Result<Vec<u8>, AllocError
 
 /// A number by its name, or in hex.
 pub(crate) fn name_text(alloc: Global, names: &[Name], number: u32) -> Result<Vec<u8>, AllocError>
-    ensures { IfOk result (λ text. text.items ≡ text_in (map row names.now) number) }
+    ensures { IfOk result (λ text. text.items ≡ name_or_hex (map name_row names.now) number) }
 {
     match name_of(names, number) {
         Some(name) => name.to_vec(alloc),
