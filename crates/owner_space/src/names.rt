@@ -2,9 +2,9 @@
 ghost use Rattle.std.specs.Prelude.{◌≡◌, ◌≤◌, ℕ, List, Err, IsOk, MatchResult};
 ghost use Rattle.store_model.specs.Prelude.{Reply, buffer_after};
 ghost use Rattle.service_calls.specs.{Answered.AnswersReply, Meanings.model_request};
-ghost use Rattle.owner_space.specs.Naming.{asked, told};
+ghost use Rattle.owner_space.specs.Naming.{asked, names_by, told};
 
-use crate::owners::OwnerMap;
+use crate::owners::{Owner, OwnerMap};
 use psa_status::Status;
 use service_calls::{Call, Output};
 
@@ -26,6 +26,16 @@ fn same<'a>(call: &Call<'a>) -> Call<'a>
 }
 
 impl Names {
+    /// How sessions name keys that have these owners, or none.
+    pub fn by(owners: Option<[Owner; 16]>) -> Names
+        ensures { result ≡ names_by owners }
+    {
+        match owners {
+            None => Names::Unowned,
+            Some(owners) => Names::Owned(OwnerMap::new(owners)),
+        }
+    }
+
     /// What is asked of the store where a caller makes this call: without owners the call as it is.
     pub fn call<'a>(&self, caller: u8, call: &Call<'a>) -> Call<'a>
         requires first { 1 ≤ caller }

@@ -22,6 +22,13 @@ impl Model for Owner {
 }
 
 impl Owner {
+    /// The first owner, 0.
+    pub fn first() -> Owner
+        ensures { result ≡ 0 }
+    {
+        Owner(0)
+    }
+
     /// The owner of this number, which is 0 to 15.
     pub fn new(number: u8) -> Option<Owner>
         ensures { MatchOption result (15 < number) (λ owner. owner ≡ number) }

@@ -1,8 +1,8 @@
 -- What is in the grammar is read, and a text that is outside isn't: the answer is its first reason.
-use Rattle.std.proofs.Common.{Err, List, None, Ok, Option, Result, Some, [], ap, append_assoc, arith, false, inl, inr, le-ltb, length, lt-ltb, not, ok_or, refl, subst, suc, sym, true, ℕ, ◌++◌, ◌+◌, ◌∙◌, ◌∷◌, ◌≡◌, ◌⊎◌}
-use Rattle.script_lang.proofs.Common.{append-nil, AreBadAfter, AreBadFields, AreBadFixed, AreBadWords, AreFields, AreFixed, AreSteps, BadKey, BadLine, cut_of, demand, false_from_ne_true, Field, field_named, field_value, Fields, FieldValue, Fixed, has_field, has_required, is_allowed, is_name, IsBadField, IsBadFixed, IsBadValue, IsFault, IsField, IsFixed, IsKeyWord, IsLine, IsScript, IsStep, key_at, KeyWord, Kind, Line, line_words, lines_at, MissingField, no_words, nothing_read, parts_at, Places, Read, read_field, read_fields, read_fixed, Reason, RepeatedField, row_named, script_of, ScriptFault, ScriptLine, session_of, Shape, text_lines, UnknownField, with_word, words_at}
+use Rattle.std.proofs.Common.{codes, Err, List, None, Ok, Option, Result, Some, [], ap, append_assoc, arith, false, inl, inr, le-ltb, length, lt-ltb, ne_eqb, not, ok_or, refl, subst, suc, sym, true, ℕ, ◌++◌, ◌+◌, ◌∙◌, ◌∷◌, ◌≡◌, ◌⊎◌}
+use Rattle.script_lang.proofs.Common.{append-nil, AreBadAfter, AreBadFields, AreBadFixed, AreBadWords, AreFields, AreFixed, AreSteps, BadKey, BadLine, cut_of, demand, false_from_ne_true, Field, field_named, field_value, Fields, FieldValue, Fixed, has_field, has_required, is_allowed, is_name, IsBadField, IsBadFixed, IsBadValue, IsFault, IsField, IsFixed, IsKeyWord, IsLine, IsOwnerLine, IsBadOwner, IsRow, IsScript, IsStep, bytes_eq, bytes_eq-Decides, call_line, LateOwner, has_begun, none-some, owner_line, owner_of, rows, Said, said_by, key_at, KeyWord, Kind, Line, line_words, lines_at, MissingField, no_words, nothing_read, parts_at, Places, Read, read_field, read_fields, read_fixed, Reason, RepeatedField, row_named, script_of, ScriptFault, session_of, Shape, text_lines, UnknownField, with_word, words_at}
 use Rattle.script_lang.specs.Steps.{◌>>=◌}
-use Rattle.script_lang.proofs.{Ends.Ends, Ends.fails, Ends.reads, Meant.field_joined, Meant.named_read, Meant.row_read, Named.name_cut, Named.named_again, Texts.handle_again, Texts.handle_ends, Texts.key_again, Texts.key_ends, Texts.name_again, Texts.name_means, Texts.session_again, Texts.session_means, Texts.value_again, Texts.value_ends}
+use Rattle.script_lang.proofs.{Ends.Ends, Ends.fails, Ends.reads, Meant.field_joined, Meant.named_read, Meant.row_read, Named.name_cut, Named.named_again, Texts.handle_again, Texts.handle_ends, Texts.key_again, Texts.key_ends, Texts.name_again, Texts.name_means, Texts.owner_again, Texts.owner_means, Texts.session_again, Texts.session_means, Texts.value_again, Texts.value_ends}
 use Rattle.script_lang.specs.declared.faults.ScriptFault.TheVariants as faults
 use Rattle.script_lang.specs.declared.commands.Kind.TheVariants as kind
 
@@ -31,12 +31,20 @@ fixed_again places [] fixed [] rest last h = ap (λ f. Ok (f, rest)) h
 fixed_again places (k ∷ ks) fixed (w ∷ ws) rest last h = rw (word_again places k fixed w h.0 h.1) (fixed_again places ks h.0 ws rest last h.2)
 fixed_again places ks fixed front rest last h = absurd h
 
+-- no row of a call has the word of owner lines
+not_owner : (row : Shape) → IsRow row → bytes_eq row.word (codes "owner") ≡ false
+unfolding row_named rows
+not_owner row is = false_from_ne_true (bytes_eq row.word (codes "owner")) (λ t.
+    let none : row_named (codes "owner") ≡ None = refl in
+    none-some row (sym none ∙ ap row_named (sym ((bytes_eq-Decides row.word (codes "owner")).0 t)) ∙ is))
+
 words_again : (read next : Read) (ws : List (List ℕ)) → IsLine read ws next → words_at read ws ≡ Ok next
-unfolding words_at parts_at
+unfolding words_at call_line parts_at
 words_again read next ws l =
     rw (
       l.line,
       session_again l.session_word l.session l.is_session,
+      not_owner l.row l.is_row,
       l.is_row,
       fixed_again (read.places l.session) l.row.fixed no_words l.fixed_words l.field_words l.fixed l.are_fixed,
       fields_again l.row [] l.field_words l.fields l.are_fields,
@@ -44,20 +52,26 @@ words_again read next ws l =
       l.after,
     ) refl
 
+owners_again : (read next : Read) (ws : List (List ℕ)) → IsOwnerLine read ws next → words_at read ws ≡ Ok next
+unfolding words_at owner_line
+owners_again read next ws l =
+    rw (l.line, session_again l.session_word l.session l.is_session, l.first, owner_again l.owner_word l.owner l.is_owner, l.after) refl
+
 line_again : (read next : Read) (ws : List (List ℕ)) → IsStep read ws next → words_at read ws ≡ Ok next
 unfolding words_at
 line_again read next [] h = ap Ok h
-line_again read next (w ∷ ws) h = words_again read next (w ∷ ws) h
+line_again read next (w ∷ ws) (inl h) = words_again read next (w ∷ ws) h
+line_again read next (w ∷ ws) (inr h) = owners_again read next (w ∷ ws) h
 
-lines_again : (n : ℕ) (read : Read) (texts : List (List ℕ)) (last : Read) → AreSteps read texts last → lines_at n read texts ≡ Ok last.lines
+lines_again : (n : ℕ) (read : Read) (texts : List (List ℕ)) (last : Read) → AreSteps read texts last → lines_at n read texts ≡ Ok (said_by last)
 unfolding lines_at
-lines_again n read [] last h = ap (λ (r : Read). Ok r.lines) h
+lines_again n read [] last h = ap (λ (r : Read). Ok (said_by r)) h
 lines_again n read (text ∷ texts) last h = rw (line_again read h.0 (line_words text) h.1) (lines_again (n + 1) h.0 texts last h.2)
 
-pub script_again : (text : List ℕ) (calls : List ScriptLine) → IsScript text calls → script_of text ≡ Ok calls
+pub script_again : (text : List ℕ) (said : Said) → IsScript text said → script_of text ≡ Ok said
 unfolding script_of
-script_again text calls s =
-    rw (le-ltb 4194304 (length text) s.short, le-ltb 20000 (length (text_lines text)) s.few) (lines_again 1 nothing_read (text_lines text) s.last s.steps ∙ ap Ok s.are_calls)
+script_again text said s =
+    rw (le-ltb 4194304 (length text) s.short, le-ltb 20000 (length (text_lines text)) s.few) (lines_again 1 nothing_read (text_lines text) s.last s.steps ∙ ap Ok s.is_said)
 
 -- OUTSIDE IT
 
@@ -133,14 +147,39 @@ parts_unread places row ws r (inl h) = rw (fixed_unread places row.fixed no_word
 parts_unread places row ws r (inr h) =
     rw (h.joined, fixed_again places row.fixed no_words h.fixed_words h.field_words h.fixed h.are_fixed) (fields_unread row _ [] h.field_words r h.are_bad)
 
+owner_unread : (read : Read) (s : ℕ) (ws : List (List ℕ)) (r : Reason) → has_begun read s ≡ false → IsBadOwner ws r → owner_line read s ws ≡ Err r
+unfolding owner_line
+owner_unread read s [] r first h = rw (first, h) refl
+owner_unread read s (w ∷ ws) r first (inl h) = rw (first, no_such (owner_of w) (λ n e. h.1 n (owner_means w n e)), h.0) refl
+owner_unread read s (w ∷ []) r first (inr h) = absurd (let more = h.1 in omega arith)
+owner_unread read s (w ∷ v ∷ ws) r first (inr h) = rw (first, owner_again w h.2 h.3, ne_eqb (suc (suc (length ws))) 1 (λ e. omega (arith, e)), h.0) refl
+
+late_unread : (read : Read) (s : ℕ) (ws : List (List ℕ)) (r : Reason) → ((r ≡ LateOwner) × (has_begun read s ≡ true)) ⊎ ((has_begun read s ≡ false) × IsBadOwner ws r) →
+    owner_line read s ws ≡ Err r
+unfolding owner_line
+late_unread read s ws r (inl h) = rw (h.1, h.0) refl
+late_unread read s ws r (inr h) = owner_unread read s ws r h.0 h.1
+
+call_unread : (read : Read) (s : ℕ) (row : Shape) (ws : List (List ℕ)) (r : Reason) → IsRow row → AreBadFixed (read.places s) row.fixed no_words ws r ⊎ AreBadAfter (read.places s) row ws r →
+    call_line read s row.word ws ≡ Err r
+unfolding call_line
+call_unread read s row ws r is bad = rw (is, parts_unread (read.places s) row ws r bad) refl
+
 words_unread : (read : Read) (ws : List (List ℕ)) (r : Reason) → AreBadWords read ws r → words_at read ws ≡ Err r
-unfolding words_at
+unfolding words_at call_line
 words_unread read [] r h = absurd h
 words_unread read (w ∷ ws) r (inl h) = rw (no_such (session_of w) (λ s e. h.1 s (session_means w s e)), h.0) refl
 words_unread read (w ∷ []) r (inr h) = rw (session_again w h.0 h.1, h.2) refl
 words_unread read (w ∷ name ∷ ws) r (inr (s, is, inl h)) =
-    rw (session_again w s is, no_such (row_named name) (λ row e. h.1 row (row_read name row e) (named_read name row e)), h.0) refl
-words_unread read (w ∷ name ∷ ws) r (inr (s, is, inr h)) = rw (session_again w s is, sym h.2, h.1, parts_unread (read.places s) h.0 ws r h.3) refl
+    rw (
+      session_again w s is,
+      false_from_ne_true (bytes_eq name (codes "owner")) (λ t. h.1 ((bytes_eq-Decides name (codes "owner")).0 t)),
+      no_such (row_named name) (λ row e. h.2 row (row_read name row e) (named_read name row e)),
+      h.0,
+    ) refl
+words_unread read (w ∷ name ∷ ws) r (inr (s, is, inr (inl h))) = rw (session_again w s is, h.0) (late_unread read s ws r h.1)
+words_unread read (w ∷ name ∷ ws) r (inr (s, is, inr (inr h))) =
+    rw (session_again w s is, sym h.2, not_owner h.0 h.1) (call_unread read s h.0 ws r h.1 h.3)
 
 lines_unread : (n : ℕ) (read last : Read) (before after : List (List ℕ)) (line : List ℕ) (r : Reason) → AreSteps read before last → AreBadWords last (line_words line) r →
     lines_at n read (before ++ line ∷ after) ≡ Err (BadLine (n + length before) r)

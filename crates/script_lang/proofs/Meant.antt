@@ -1,9 +1,9 @@
 -- A text is read as calls where the grammar says that it says them, and refused where it is outside, for the reason that
 -- is answered.
-use Rattle.std.proofs.Common.{Bool, Err, List, None, Ok, Option, Result, Some, [], ap, append_assoc, ap₂, arith, cond, false, find, inl, inr, length, ltb-false, ltb-true, nat_lt, option_map, refl, subst, suc, sym, true, ℕ, ◌++◌, ◌+◌, ◌==◌, ◌∙◌, ◌∷◌, ◌≡◌, ◌⊎◌}
-use Rattle.script_lang.proofs.Common.{all_fields, append-nil, AreBadAfter, AreBadFields, AreBadFixed, AreBadWords, AreFields, AreFixed, AreSteps, BadLine, BadName, BadSession, bytes_eq, bytes_eq-Decides, call_of, cut_of, Field, field_name, field_named, Fields, FieldValue, Fixed, has_field, has_required, is_allowed, is_name, IsBadField, IsBadFixed, IsFault, IsField, IsFixed, IsRow, IsScript, IsStep, Kind, line_words, lines_at, MissingField, no_words, none-some, nothing_read, or_bad_line, parts_at, Places, Read, read_field, read_fields, read_fixed, Reason, RepeatedField, row_named, rows, same_Some, script_of, ScriptCall, ScriptFault, ScriptLine, session_of, Shape, text_lines, TooLong, TooManyLines, UnknownCommand, UnknownField, with_call, with_word, words_at}
+use Rattle.std.proofs.Common.{Bool, codes, Err, List, None, Ok, Option, Result, Some, [], ap, append_assoc, ap₂, arith, cond, false, find, inl, inr, length, ltb-false, ltb-true, nat_lt, option_map, refl, subst, suc, sym, true, ℕ, ◌++◌, ◌+◌, ◌==◌, ◌∙◌, ◌∷◌, ◌≡◌, ◌≤◌, ◌⊎◌}
+use Rattle.script_lang.proofs.Common.{all_fields, append-nil, AreBadAfter, AreBadFields, AreBadFixed, AreBadWords, AreFields, AreFixed, AreSteps, BadLine, BadName, BadSession, bytes_eq, bytes_eq-Decides, call_of, cut_of, Field, field_name, field_named, Fields, FieldValue, Fixed, has_field, has_required, is_allowed, is_name, IsBadField, IsBadFixed, IsFault, IsField, IsFixed, IsBadCommand, IsBadOwner, IsOneTo, IsOwner, IsRow, IsScript, IsStep, call_line, Kind, LateOwner, BadOwner, has_begun, owner_line, owner_of, Said, said_by, with_owner, line_words, lines_at, MissingField, no_words, none-some, nothing_read, or_bad_line, parts_at, Places, Read, read_field, read_fields, read_fixed, Reason, RepeatedField, row_named, rows, same_Some, script_of, ScriptCall, ScriptFault, session_of, Shape, text_lines, TooLong, TooManyLines, UnknownCommand, UnknownField, with_call, with_word, words_at}
 use Rattle.std.proofs.lemmas.Bool.{both_ways, eqb-true}
-use Rattle.script_lang.proofs.{Ends.Ends, Ends.asked, Ends.demanded, Ends.denied, Ends.fails, Ends.found, Ends.reads, Ends.step, Ends.weaker, Named.name_cut, Named.named_again, Texts.handle_ends, Texts.key_ends, Texts.name_again, Texts.name_means, Texts.session_again, Texts.session_means, Texts.value_ends}
+use Rattle.script_lang.proofs.{Ends.Ends, Ends.asked, Ends.demanded, Ends.denied, Ends.fails, Ends.found, Ends.reads, Ends.step, Ends.weaker, Named.name_cut, Named.named_again, Texts.handle_ends, Texts.key_ends, Texts.name_again, Texts.name_means, Texts.owner_again, Texts.owner_means, Texts.session_again, Texts.session_means, Texts.value_ends}
 use Rattle.script_lang.specs.declared.commands.Kind.TheVariants as kind
 
 -- what find found is as the test says
@@ -102,33 +102,94 @@ named_read name row e = (bytes_eq-Decides row.word name).0 (find_test (λ r. byt
 pub row_read : (name : List ℕ) (row : Shape) → row_named name ≡ Some row → IsRow row
 row_read name row e = ap row_named (named_read name row e) ∙ e
 
+-- owner lines
+
+more_words : (ws : List (List ℕ)) → (suc (length ws) == 1) ≡ false → 1 ≤ length ws
+more_words [] t = cc
+more_words (w ∷ ws) t = omega arith
+
+only_word : (ws : List (List ℕ)) → (suc (length ws) == 1) ≡ true → ws ≡ []
+only_word [] t = refl
+only_word (w ∷ ws) t = absurd (let same : suc (suc (length ws)) ≡ 1 = eqb-true (suc (suc (length ws))) 1 t in omega arith)
+
+abbrev IsStated : Read → ℕ → List (List ℕ) → Read → Type 0
+IsStated read s ws next = (owner : ℕ) × (word : List ℕ) × (ws ≡ word ∷ []) × IsOwner word owner × (has_begun read s ≡ false) × (next ≡ with_owner read s owner)
+
+abbrev IsUnstated : Read → ℕ → List (List ℕ) → Reason → Type 0
+IsUnstated read s ws e = ((e ≡ LateOwner) × (has_begun read s ≡ true)) ⊎ ((has_begun read s ≡ false) × IsBadOwner ws e)
+
+owner_ends : (read : Read) (s : ℕ) (ws : List (List ℕ)) → Ends (IsStated read s ws) (IsUnstated read s ws) (owner_line read s ws)
+unfolding owner_line
+owner_ends read s [] = step _ (denied (has_begun read s) LateOwner) (λ e h. inl h) (λ _ first. fails (inr (first, refl)))
+owner_ends read s (w ∷ ws) = step _ (denied (has_begun read s) LateOwner) (λ e h. inl h) (λ _ first.
+    step _ (asked (owner_of w) BadOwner (owner_means w) (owner_again w)) (λ e h. inr (first, inl h)) (λ owner is.
+    step _ (demanded (suc (length ws) == 1) UnknownField) (λ e h. inr (first, inr (h.0, more_words ws h.1, owner, is)))
+    (λ _ one. reads (owner, w, ap (λ vs. w ∷ vs) (only_word ws one), is, first, refl))))
+
+-- calls
+
+abbrev IsCall : Read → ℕ → (name : List ℕ) → List (List ℕ) → Read → Type 0
+IsCall read s name ws next = (row : Shape) × (row_named name ≡ Some row) × (parts : Option (List ℕ) × ScriptCall) × AreParts (read.places s) row ws parts × (next ≡ with_call read s parts.0 parts.1)
+
+abbrev IsNoCall : Read → ℕ → (name : List ℕ) → List (List ℕ) → Reason → Type 0
+IsNoCall read s name ws e =
+    ((e ≡ UnknownCommand) × ((row : Shape) → IsRow row → row.word ≡ name → ⊥))
+    ⊎ ((row : Shape) × IsRow row × (row.word ≡ name) × (AreBadFixed (read.places s) row.fixed no_words ws e ⊎ AreBadAfter (read.places s) row ws e))
+
+call_ends : (read : Read) (s : ℕ) (name : List ℕ) (ws : List (List ℕ)) → Ends (IsCall read s name ws) (IsNoCall read s name ws) (call_line read s name ws)
+unfolding call_line
+call_ends read s name ws =
+    step _ (found (row_named name) UnknownCommand) (λ e h. inl (h.0, λ row is_row same. absurd (none-some row (sym h.1 ∙ ap row_named (sym same) ∙ is_row)))) (λ row at.
+    step _ (parts_end (read.places s) row ws) (λ e h. inr (row, row_read name row at, named_read name row at, h)) (λ parts p. reads (row, at, parts, p, refl)))
+
 words_end : (read : Read) (ws : List (List ℕ)) → Ends (IsStep read ws) (AreBadWords read ws) (words_at read ws)
 unfolding words_at
 words_end read [] = reads refl
 words_end read (w ∷ []) = step _ (asked (session_of w) BadSession (session_means w) (session_again w)) (λ e h. inl h) (λ s is. fails (inr (s, is, refl)))
-words_end read (w ∷ name ∷ ws) = step _ (asked (session_of w) BadSession (session_means w) (session_again w)) (λ e h. inl h) (λ s is.
-    step _ (found (row_named name) UnknownCommand) (λ e h. inr (s, is, inl (h.0, λ row is_row same. absurd (none-some row (sym h.1 ∙ ap row_named (sym same) ∙ is_row))))) (λ row at.
-    step _ (parts_end (read.places s) row ws) (λ e h. inr (s, is, inr (row, row_read name row at, named_read name row at, h))) (λ parts p. reads (record {
-      session = s;
-      row = row;
-      fixed = p.0;
-      fields = p.1;
-      session_word = w;
-      fixed_words = p.2;
-      field_words = p.3;
-      is_row = row_read name row at;
-      is_session = is;
-      line = ap₂ (λ (n : List ℕ) xs. w ∷ n ∷ xs) (sym (named_read name row at)) p.4;
-      are_fixed = p.5;
-      are_fields = p.6;
-      all = p.7;
-      after = ap (λ (q : Option (List ℕ) × ScriptCall). with_call read s q.0 q.1) p.8;
-    }))))
+words_end read (w ∷ name ∷ ws) = step _ (asked (session_of w) BadSession (session_means w) (session_again w)) (λ e h. inl h) (λ s is. by s is (bytes_eq name (codes "owner")) refl)
+  where
+    by : (s : ℕ) → IsOneTo 16 w s → (b : Bool) → bytes_eq name (codes "owner") ≡ b →
+        Ends (IsStep read (w ∷ name ∷ ws)) (AreBadWords read (w ∷ name ∷ ws)) (cond b (owner_line read s ws) (call_line read s name ws))
+    by s is true t =
+        let named : name ≡ codes "owner" = (bytes_eq-Decides name (codes "owner")).0 t in
+        weaker (owner_ends read s ws) (λ e h. inr (s, is, inr (inl (named, h)))) (λ next h. inr (record {
+          session = s;
+          owner = h.0;
+          session_word = w;
+          owner_word = h.1;
+          is_session = is;
+          is_owner = h.3;
+          line = ap₂ (λ (n : List ℕ) xs. w ∷ n ∷ xs) named h.2;
+          first = h.4;
+          after = h.5;
+        }))
+    by s is false t =
+        weaker (call_ends read s name ws) (λ e h. inr (s, is, no_call e h)) (λ next h.
+          let row = h.0 in let at = h.1 in let p = h.3 in inl (record {
+            session = s;
+            row = row;
+            fixed = p.0;
+            fields = p.1;
+            session_word = w;
+            fixed_words = p.2;
+            field_words = p.3;
+            is_row = row_read name row at;
+            is_session = is;
+            line = ap₂ (λ (n : List ℕ) xs. w ∷ n ∷ xs) (sym (named_read name row at)) p.4;
+            are_fixed = p.5;
+            are_fields = p.6;
+            all = p.7;
+            after = h.4 ∙ ap (λ (q : Option (List ℕ) × ScriptCall). with_call read s q.0 q.1) p.8;
+          }))
+      where
+        no_call : (e : Reason) → IsNoCall read s name ws e → IsBadCommand read s (name ∷ ws) e
+        no_call e (inl h) = inl (h.0, λ same. both_ways _ t ((bytes_eq-Decides name (codes "owner")).1 same), h.1)
+        no_call e (inr h) = inr (inr h)
 
 -- scripts
 
-abbrev AreRead : Read → List (List ℕ) → List ScriptLine → Type 0
-AreRead read texts calls = (last : Read) × AreSteps read texts last × (last.lines ≡ calls)
+abbrev AreRead : Read → List (List ℕ) → Said → Type 0
+AreRead read texts said = (last : Read) × AreSteps read texts last × (said_by last ≡ said)
 
 -- the first of these lines that is outside
 record AreBadLines (number : ℕ) (read : Read) (texts : List (List ℕ)) (fault : ScriptFault) : Type 0 where
@@ -196,4 +257,4 @@ script_ends text = go (nat_lt 4194304 (length text)) (nat_lt 20000 (length (text
           steps = b.steps;
           bad = b.bad;
         }))
-        (λ calls h. record { last = h.0; short = short; few = few; steps = h.1; are_calls = h.2 })
+        (λ calls h. record { last = h.0; short = short; few = few; steps = h.1; is_said = h.2 })

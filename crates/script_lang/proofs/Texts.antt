@@ -1,6 +1,6 @@
 -- Numbers, sessions, names, keys and values: what is read of a text is what the grammar says of it.
-use Rattle.std.proofs.Common.{Bool, Err, List, None, Ok, Option, Result, Some, inl, inr, le-ltb, [], ap, arith, cond, eq-eqb, eqb-true, false, get_or, le-leb, leb-true, length, lt-ltb, ltb-false, ltb-true, nat_le, nat_lt, ne_eqb, ok_or, option_and_then, option_map, refl, subst, sym, true, ℕ, ◌&&◌, ◌*◌, ◌+◌, ◌-◌, ◌<◌, ◌==◌, ◌^◌, ◌||◌, ◌∙◌, ◌∷◌, ◌≡◌, ◌≤◌}
-use Rattle.script_lang.proofs.Common.{AllPass-from_list_all, and_from, and_parts, BadHandle, BadKey, BadValue, begins_with, both_ways, BytesForm, cond-true, cond_some, decimal, decode_of, digit_in, eqb-false, Field, field_value, FieldValue, Form, form_of, form_value, from_least, Given, handle_at, is_letter, is_name, is_name_byte, IsBadFixed, IsForm, IsKeyWord, IsLetter, IsName, IsNameByte, IsNumber, IsOneTo, key_at, KeyWord, Line, list_all-from_AllPass, LongForm, nat_tests, none-some, number, number_from, option_and_then_some, or_parts, Places, same_Some, session_of, ShortForm, UnknownName, WordForm}
+use Rattle.std.proofs.Common.{Bool, Err, List, None, Ok, Option, Result, Some, inl, inr, le-ltb, [], ap, arith, cond, eq-eqb, eqb-true, false, get_or, le-leb, leb-true, length, lt-ltb, ltb-false, ltb-true, nat_le, nat_lt, ne_eqb, ok_or, option_and_then, option_map, refl, subst, suc, sym, true, zero, ℕ, ◌&&◌, ◌*◌, ◌+◌, ◌-◌, ◌<◌, ◌==◌, ◌^◌, ◌||◌, ◌∙◌, ◌∷◌, ◌≡◌, ◌≤◌}
+use Rattle.script_lang.proofs.Common.{AllPass-from_list_all, and_from, and_parts, BadHandle, BadKey, BadValue, begins_with, both_ways, BytesForm, cond-true, cond_some, decimal, decode_of, digit_in, eqb-false, Field, field_value, FieldValue, Form, form_of, form_value, from_least, Given, handle_at, is_letter, is_name, is_name_byte, IsBadFixed, IsForm, IsKeyWord, IsLetter, IsName, IsNameByte, IsNumber, IsOneTo, IsOwner, key_at, KeyWord, Line, list_all-from_AllPass, LongForm, nat_tests, none-some, number, number_from, option_and_then_some, or_parts, owner_of, Places, same_Some, session_of, ShortForm, UnknownName, WordForm}
 use Rattle.std.specs.{Bool.Decides, Result.result_ok, Char.digit_value, Str.Parse.AllDigits, Str.Parse.digits_value, Str.Parse.digits_value_after}
 use Rattle.std.proofs.{lemmas.Fmt.decimal_is_IsNumeral, lemmas.Fmt.length-decimal-le, lemmas.Fmt.first_decimal, lemmas.Fmt.decimal-digits_value, lemmas.Fmt.decimal_digit, lemmas.Str.Parse.IsNumeralModel}
 use Rattle.script_lang.proofs.{Digits.if_below, Digits.number_is, Digits.found, Ends.Ends, Ends.asked, Ends.fails, Ends.reads}
@@ -80,6 +80,43 @@ session_again word s h =
     let numeral = decimal_is_IsNumeral s fits in
     let n : number 10 2 17 (decimal s) ≡ Some s = number_again 10 2 17 (decimal s) s (numeral.0, length-decimal-le 2 s (omega arith) (omega (arith, h.2)) fits, numeral.1, omega (arith, h.2)) in
     rw (h.0, first_is_not_zero (decimal s) (first_decimal s (omega (arith, h.1)) fits), n) (from_least_again 1 s h.1)
+
+-- owners
+
+-- a numeral that may begin with 0 only where it has one digit
+only_zero : (word : List ℕ) → (begins_with 48 word && nat_lt 1 (length word)) ≡ false → get_or word 0 0 ≡ 48 → length word ≡ 1
+only_zero [] h e = absurd (omega arith)
+only_zero (c ∷ cs) h e =
+    let none : nat_lt 1 (length (c ∷ cs)) ≡ false = sym (ap (λ b. b && nat_lt 1 (length (c ∷ cs))) (eq-eqb c 48 e)) ∙ h in
+    omega (arith, ltb-false 1 (length (c ∷ cs)) none)
+
+pub owner_means : (word : List ℕ) (n : ℕ) → owner_of word ≡ Some n → IsOwner word n
+unfolding owner_of
+owner_means word n e = go (begins_with 48 word && nat_lt 1 (length word)) refl e
+  where
+    go : (b : Bool) → (begins_with 48 word && nat_lt 1 (length word)) ≡ b → cond b None (number 10 2 16 word) ≡ Some n → IsOwner word n
+    go true t f = absurd (none-some n f)
+    go false t f =
+        let m = number_means 10 2 16 word n f in
+        let fits : digits_value 10 word < 2 ^ 64 = omega (arith, m.2, m.3) in
+        (sym (decimal-digits_value own word m.0.1 m.0.0 (only_zero word t) fits) ∙ ap decimal m.2, omega (arith, m.3))
+
+no_zeros_before : (n : ℕ) → n < 2 ^ 64 → (begins_with 48 (decimal n) && nat_lt 1 (length (decimal n))) ≡ false
+no_zeros_before zero fits =
+    ap (λ b. begins_with 48 (decimal 0) && b) (le-ltb 1 (length (decimal 0)) (length-decimal-le 1 0 (omega arith) (omega arith) fits)) ∙ neither (begins_with 48 (decimal 0))
+  where
+    neither : (b : Bool) → (b && false) ≡ false
+    neither true = refl
+    neither false = refl
+no_zeros_before (suc m) fits = rw (first_is_not_zero (decimal (suc m)) (first_decimal (suc m) (omega arith) fits)) refl
+
+pub owner_again : (word : List ℕ) (n : ℕ) → IsOwner word n → owner_of word ≡ Some n
+unfolding owner_of
+owner_again word n h =
+    let fits : n < 2 ^ 64 = omega (arith, h.1) in
+    let numeral = decimal_is_IsNumeral n fits in
+    let same : number 10 2 16 (decimal n) ≡ Some n = number_again 10 2 16 (decimal n) n (numeral.0, length-decimal-le 2 n (omega arith) (omega (arith, h.1)) fits, numeral.1, omega (arith, h.1)) in
+    rw (h.0, no_zeros_before n fits) same
 
 -- names
 

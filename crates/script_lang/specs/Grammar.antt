@@ -1,9 +1,9 @@
--- The grammar of scripts: which calls a text says, and why a text says none. Numbers are stated by their digits'
+-- The grammar of scripts: which calls and owners a text says, and why a text says none. Numbers are stated by their digits'
 -- values (std's) or their texts, and bytes by what hex decodes; what this crate's readers do isn't in it.
-use Rattle.std.specs.{Prelude.ℕ, Prelude.◌≡◌, Prelude.◌≤◌, Prelude.◌<◌, Prelude.◌^◌, Prelude.◌⊎◌, Prelude.true, Prelude.false, Prelude.List, Prelude.[], Prelude.◌∷◌, Prelude.◌++◌, Prelude.length, Prelude.All, Prelude.Some, Prelude.Ok, Fmt.decimal, Str.Parse.IsNumeral, Str.Parse.digits_value}
+use Rattle.std.specs.{Prelude.ℕ, Prelude.◌≡◌, Prelude.◌≤◌, Prelude.◌<◌, Prelude.◌^◌, Prelude.◌⊎◌, Prelude.true, Prelude.false, Prelude.List, Prelude.[], Prelude.◌∷◌, Prelude.◌++◌, Prelude.length, Prelude.All, Prelude.Some, Prelude.Ok, Prelude.codes, Fmt.decimal, Str.Parse.IsNumeral, Str.Parse.digits_value}
 use Rattle.hex.specs.Hex.{decode_of}
-use Rattle.script_lang.specs.{Pieces.line_words, Pieces.text_lines, Shapes.Shape, Commands.IsRow, Fields.Form, Fields.ShortForm, Fields.WordForm, Fields.LongForm, Fields.BytesForm, Fields.form_of, Fields.Fields, Fields.field_name, Fields.is_allowed, Fields.has_field, Fields.has_required, Lines.Places, Lines.Read, Lines.nothing_read, Lines.no_words, Lines.call_of, Lines.with_call}
-use Rattle.script_lang.specs.{declared.fields.Field.Field, declared.fields.FieldValue.FieldValue, declared.fields.FieldValue.TheVariants.Short, declared.fields.FieldValue.TheVariants.Word, declared.fields.FieldValue.TheVariants.Long, declared.fields.FieldValue.TheVariants.Bytes, declared.fixed.Fixed.Fixed, declared.script.KeyWord.KeyWord, declared.script.ScriptLine.ScriptLine}
+use Rattle.script_lang.specs.{Pieces.line_words, Pieces.text_lines, Shapes.Shape, Commands.IsRow, Fields.Form, Fields.ShortForm, Fields.WordForm, Fields.LongForm, Fields.BytesForm, Fields.form_of, Fields.Fields, Fields.field_name, Fields.is_allowed, Fields.has_field, Fields.has_required, Lines.Places, Lines.Read, Lines.nothing_read, Lines.no_words, Lines.call_of, Lines.with_call, Lines.Said, Lines.has_begun, Lines.said_by, Lines.with_owner}
+use Rattle.script_lang.specs.{declared.fields.Field.Field, declared.fields.FieldValue.FieldValue, declared.fields.FieldValue.TheVariants.Short, declared.fields.FieldValue.TheVariants.Word, declared.fields.FieldValue.TheVariants.Long, declared.fields.FieldValue.TheVariants.Bytes, declared.fixed.Fixed.Fixed, declared.script.KeyWord.KeyWord}
 use Rattle.script_lang.specs.{declared.script.KeyWord.TheVariants.Given, declared.script.KeyWord.TheVariants.Line, declared.commands.Kind.Kind}
 use Rattle.script_lang.specs.declared.commands.Kind.TheVariants as kind
 
@@ -78,19 +78,35 @@ pub record IsLine (read : Read) (ws : List (List ℕ)) (next : Read) : Type 0 wh
   pub all : has_required row fields ≡ true
   pub after : next ≡ with_call read session fixed.name (call_of row fixed fields)
 
+-- one of the numbers 0 to 15, in decimal
+abbrev pub IsOwner : List ℕ → ℕ → Type 0
+IsOwner word n = (word ≡ decimal n) × (n ≤ 15)
+
+-- a line that states the owner of a session, before any other line of the session
+pub record IsOwnerLine (read : Read) (ws : List (List ℕ)) (next : Read) : Type 0 where
+  pub session : ℕ
+  pub owner : ℕ
+  pub session_word : List ℕ
+  pub owner_word : List ℕ
+  pub is_session : IsOneTo 16 session_word session
+  pub is_owner : IsOwner owner_word owner
+  pub line : ws ≡ session_word ∷ codes "owner" ∷ owner_word ∷ []
+  pub first : has_begun read session ≡ false
+  pub after : next ≡ with_owner read session owner
+
 -- a line by its words; one without words, as a comment, says nothing
 abbrev pub IsStep : Read → List (List ℕ) → Read → Type 0
 IsStep read [] next = read ≡ next
-IsStep read ws next = IsLine read ws next
+IsStep read ws next = IsLine read ws next ⊎ IsOwnerLine read ws next
 
 abbrev pub AreSteps : Read → List (List ℕ) → Read → Type 0
 AreSteps read [] last = read ≡ last
 AreSteps read (line ∷ lines) last = (next : Read) × IsStep read (line_words line) next × AreSteps next lines last
 
 -- at most 4 MiB and 20,000 lines, each in the grammar
-pub record IsScript (text : List ℕ) (calls : List ScriptLine) : Type 0 where
+pub record IsScript (text : List ℕ) (said : Said) : Type 0 where
   pub last : Read
   pub short : length text ≤ 4194304
   pub few : length (text_lines text) ≤ 20000
   pub steps : AreSteps nothing_read (text_lines text) last
-  pub are_calls : last.lines ≡ calls
+  pub is_said : said_by last ≡ said

@@ -1,9 +1,9 @@
 -- The lines of a script, read from left to right.
 use Rattle.script_lang.specs.{declared.commands.Kind.Kind, declared.script.KeyWord.KeyWord, Numbers.number, Numbers.from_least, Pieces.begins_with, Pieces.line_words, Pieces.text_lines, Shapes.Shape, Commands.row_named, Fields.Fields, Fields.read_fields, Fields.has_required, Steps.◌>>=◌, Steps.demand, declared.faults.LineError.LineError, declared.faults.Reason.Reason, declared.fixed.Fixed.Fixed}
-use Rattle.std.specs.Prelude.{◌≡◌, ◌≤◌, ℕ, ◌+◌, ◌-◌, ◌^◌, Bool, false, ◌||◌, ◌&&◌, nat_lt, nat_le, ◌==◌, List, [], ◌∷◌, ◌++◌, length, drop, slice_get, filter, if◌then◌else◌, Option, Some, None, option_map, ok_or, Result, Ok, Err}
-use Rattle.std.specs.{List.list_all, Str.bytes_eq}
+use Rattle.std.specs.Prelude.{◌≡◌, ◌≤◌, ℕ, ◌+◌, ◌-◌, ◌^◌, Bool, false, ◌||◌, ◌&&◌, nat_lt, nat_le, ◌==◌, List, [], ◌∷◌, ◌++◌, length, drop, slice_get, filter, if◌then◌else◌, Option, Some, None, option_map, ok_or, Result, Ok, Err, codes, not, replicate, slice_set}
+use Rattle.std.specs.{List.list_all, Option.unwrap_or, Str.bytes_eq}
 use Rattle.script_lang.specs.declared.faults.LineError.TheVariants as errors
-use Rattle.script_lang.specs.declared.faults.Reason.TheVariants.{BadSession, UnknownCommand, MissingWord, BadHandle, BadName, BadKey, UnknownName, MissingField}
+use Rattle.script_lang.specs.declared.faults.Reason.TheVariants.{BadSession, UnknownCommand, MissingWord, BadHandle, BadName, BadKey, UnknownName, UnknownField, MissingField, LateOwner, BadOwner}
 use Rattle.script_lang.specs.{declared.faults.ScriptFault.ScriptFault, declared.faults.ScriptFault.TheVariants.TooLong, declared.faults.ScriptFault.TheVariants.TooManyLines, declared.faults.ScriptFault.TheVariants.BadLine, declared.script.KeyWord.TheVariants.Given, declared.script.KeyWord.TheVariants.Line, declared.script.ScriptCall.ScriptCall, declared.script.ScriptLine.ScriptLine}
 use Rattle.script_lang.specs.declared.faults.ScriptFault.TheVariants as faults
 use Rattle.script_lang.specs.declared.commands.Kind.TheVariants as kind
@@ -60,18 +60,33 @@ read_fixed places (k ∷ ks) fixed ws = do
   next ← with_word places k fixed word
   read_fixed places ks next (drop 1 ws)
 
--- what was read: the calls, and what the names of each session stand for
+-- what was read: the calls, what the names of each session stand for, the owners of sessions 1 to 16 once a line states one,
+-- and which sessions have stated theirs
 pub record Read : Type 0 where
   pub lines : List ScriptLine
   pub places : ℕ → Places
+  pub owners : Option (List ℕ)
+  pub stated : ℕ → Bool
 
--- nothing was read, and no name stands for anything
+-- nothing was read: no name stands for anything, and no session has stated an owner
 abbrev pub nothing_read : Read
-nothing_read = record { lines = []; places = λ session name. None }
+nothing_read = record { lines = []; places = λ session name. None; owners = None; stated = λ session. false }
+
+-- what a script says: its calls, and the owners of sessions 1 to 16, where one of its lines states one
+pub record Said : Type 0 where
+  pub lines : List ScriptLine
+  pub owners : Option (List ℕ)
+
+abbrev pub said_by : Read → Said
+said_by read = record { lines = read.lines; owners = read.owners }
 
 -- 1 to 16, without a leading zero
 unfoldable pub session_of : List ℕ → Option ℕ
 session_of word = if begins_with 48 word then None else from_least 1 (number 10 2 17 word)
+
+-- 0 to 15, without a leading zero
+unfoldable pub owner_of : List ℕ → Option ℕ
+owner_of word = if begins_with 48 word && nat_lt 1 (length word) then None else number 10 2 16 word
 
 abbrev pub lines_of : ℕ → List ScriptLine → List ScriptLine
 lines_of session lines = filter (λ line. line.session == session) lines
@@ -86,6 +101,21 @@ abbrev pub with_call : Read → ℕ → Option (List ℕ) → ScriptCall → Rea
 with_call read session name call = record {
   lines = read.lines ++ record { session = session; call = call } ∷ [];
   places = λ s. if s == session then given_place (read.places s) name (length (lines_of session read.lines)) else read.places s;
+  owners = read.owners;
+  stated = read.stated;
+}
+
+-- a session has stated its owner, or has a call
+abbrev pub has_begun : Read → ℕ → Bool
+has_begun read session = read.stated session || nat_lt 0 (length (lines_of session read.lines))
+
+-- a session's owner; the sessions that state none have owner 0
+abbrev pub with_owner : Read → ℕ → ℕ → Read
+with_owner read session owner = record {
+  lines = read.lines;
+  places = read.places;
+  owners = Some (slice_set (unwrap_or read.owners (replicate 16 0)) (session - 1) owner);
+  stated = λ s. s == session || read.stated s;
 }
 
 -- the call of a row, by the fixed words and the fields of its line
@@ -100,27 +130,41 @@ parts_at places row ws = do
   all_so ← demand (has_required row fs) MissingField
   Ok (fixed.0.name, call_of row fixed.0 fs)
 
+-- the words after the word `owner`: one owner, before any other line of the session
+unfoldable pub owner_line : Read → ℕ → List (List ℕ) → Result Read Reason
+owner_line read session ws = do
+  first_so ← demand (not (has_begun read session)) LateOwner
+  word ← ok_or (slice_get ws 0) MissingWord
+  owner ← ok_or (owner_of word) BadOwner
+  last_so ← demand (length ws == 1) UnknownField
+  Ok (with_owner read session owner)
+
+-- a command and the words after it
+unfoldable pub call_line : Read → ℕ → (name : List ℕ) → List (List ℕ) → Result Read Reason
+call_line read session name ws = do
+  row ← ok_or (row_named name) UnknownCommand
+  parts ← parts_at (read.places session) row ws
+  Ok (with_call read session parts.0 parts.1)
+
 -- the words of a line
 unfoldable pub words_at : Read → List (List ℕ) → Result Read Reason
 words_at read [] = Ok read
 words_at read (word ∷ ws) = do
   session ← ok_or (session_of word) BadSession
   name ← ok_or (slice_get ws 0) UnknownCommand
-  row ← ok_or (row_named name) UnknownCommand
-  parts ← parts_at (read.places session) row (drop 1 ws)
-  Ok (with_call read session parts.0 parts.1)
+  if bytes_eq name (codes "owner") then owner_line read session (drop 1 ws) else call_line read session name (drop 1 ws)
 
-abbrev pub or_bad_line : Result Read Reason → ℕ → (Read → Result (List ScriptLine) ScriptFault) → Result (List ScriptLine) ScriptFault
+abbrev pub or_bad_line : Result Read Reason → ℕ → (Read → Result Said ScriptFault) → Result Said ScriptFault
 or_bad_line (Ok next) n f = f next
 or_bad_line (Err r) n f = Err (BadLine n r)
 
 -- the lines from one number on, or the first that is outside the grammar
-unfoldable pub lines_at : ℕ → Read → List (List ℕ) → Result (List ScriptLine) ScriptFault
-lines_at n read [] = Ok read.lines
+unfoldable pub lines_at : ℕ → Read → List (List ℕ) → Result Said ScriptFault
+lines_at n read [] = Ok (said_by read)
 lines_at n read (line ∷ lines) = or_bad_line (words_at read (line_words line)) n (λ next. lines_at (n + 1) next lines)
 
--- the calls of a text, or why it isn't a script
-unfoldable pub script_of : List ℕ → Result (List ScriptLine) ScriptFault
+-- what a text says, or why it isn't a script
+unfoldable pub script_of : List ℕ → Result Said ScriptFault
 script_of text =
     if nat_lt 4194304 (length text) then Err TooLong
     else if nat_lt 20000 (length (text_lines text)) then Err TooManyLines

@@ -1,9 +1,9 @@
 -- Why a text is no script: the first line that is outside the grammar, and the first reason in it, from left
 -- to right.
-use Rattle.std.specs.Prelude.{ℕ, ◌≡◌, ◌≤◌, ◌<◌, ◌+◌, ◌⊎◌, true, false, List, [], ◌∷◌, ◌++◌, length, None}
-use Rattle.script_lang.specs.{Pieces.line_words, Pieces.text_lines, Shapes.Shape, Commands.IsRow, Fields.Fields, Fields.form_of, Fields.field_name, Fields.is_allowed, Fields.has_field, Fields.has_required, Lines.Places, Lines.Read, Lines.nothing_read, Lines.no_words, declared.faults.Reason.Reason, declared.faults.ScriptFault.ScriptFault, declared.fields.Field.Field, declared.fixed.Fixed.Fixed}
-use Rattle.script_lang.specs.{Grammar.IsForm, Grammar.IsField, Grammar.IsName, Grammar.IsKeyWord, Grammar.IsOneTo, Grammar.IsFixed, Grammar.AreFixed, Grammar.AreSteps, declared.fields.FieldValue.FieldValue, declared.script.KeyWord.KeyWord, declared.commands.Kind.Kind}
-use Rattle.script_lang.specs.declared.faults.Reason.TheVariants.{BadSession, UnknownCommand, MissingWord, BadHandle, BadName, BadKey, UnknownName, UnknownField, RepeatedField, BadValue, MissingField}
+use Rattle.std.specs.Prelude.{ℕ, ◌≡◌, ◌≤◌, ◌<◌, ◌+◌, ◌⊎◌, true, false, List, [], ◌∷◌, ◌++◌, length, codes, None}
+use Rattle.script_lang.specs.{Pieces.line_words, Pieces.text_lines, Shapes.Shape, Commands.IsRow, Fields.Fields, Fields.form_of, Fields.field_name, Fields.is_allowed, Fields.has_field, Fields.has_required, Lines.Places, Lines.Read, Lines.nothing_read, Lines.has_begun, Lines.no_words, declared.faults.Reason.Reason, declared.faults.ScriptFault.ScriptFault, declared.fields.Field.Field, declared.fixed.Fixed.Fixed}
+use Rattle.script_lang.specs.{Grammar.IsForm, Grammar.IsField, Grammar.IsName, Grammar.IsKeyWord, Grammar.IsOneTo, Grammar.IsOwner, Grammar.IsFixed, Grammar.AreFixed, Grammar.AreSteps, declared.fields.FieldValue.FieldValue, declared.script.KeyWord.KeyWord, declared.commands.Kind.Kind}
+use Rattle.script_lang.specs.declared.faults.Reason.TheVariants.{BadSession, UnknownCommand, MissingWord, BadHandle, BadName, BadKey, UnknownName, UnknownField, RepeatedField, BadValue, MissingField, LateOwner, BadOwner}
 use Rattle.script_lang.specs.declared.faults.ScriptFault.TheVariants as faults
 use Rattle.script_lang.specs.declared.commands.Kind.TheVariants as kind
 
@@ -48,11 +48,19 @@ pub record AreBadAfter (places : Places) (row : Shape) (ws : List (List ℕ)) (r
   pub are_fixed : AreFixed places row.fixed no_words fixed_words fixed
   pub are_bad : AreBadFields row [] field_words r
 
+-- the words after `owner` on a line of a session that has stated none and has no call
+abbrev pub IsBadOwner : List (List ℕ) → Reason → Type 0
+IsBadOwner [] r = r ≡ MissingWord
+IsBadOwner (w ∷ ws) r =
+    ((r ≡ BadOwner) × ((owner : ℕ) → IsOwner w owner → ⊥))
+    ⊎ ((r ≡ UnknownField) × (1 ≤ length ws) × (owner : ℕ) × IsOwner w owner)
+
 -- the words after a session
 abbrev pub IsBadCommand : Read → ℕ → List (List ℕ) → Reason → Type 0
 IsBadCommand read s [] r = r ≡ UnknownCommand
 IsBadCommand read s (name ∷ ws) r =
-    ((r ≡ UnknownCommand) × ((row : Shape) → IsRow row → row.word ≡ name → ⊥))
+    ((r ≡ UnknownCommand) × (name ≡ codes "owner" → ⊥) × ((row : Shape) → IsRow row → row.word ≡ name → ⊥))
+    ⊎ ((name ≡ codes "owner") × (((r ≡ LateOwner) × (has_begun read s ≡ true)) ⊎ ((has_begun read s ≡ false) × IsBadOwner ws r)))
     ⊎ ((row : Shape) × IsRow row × (row.word ≡ name) × (AreBadFixed (read.places s) row.fixed no_words ws r ⊎ AreBadAfter (read.places s) row ws r))
 
 -- the words of a line that is outside the grammar, after what was read

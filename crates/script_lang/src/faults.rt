@@ -30,6 +30,10 @@ pub enum Reason {
     BadValue,
     #[error("missing field")]
     MissingField,
+    #[error("late owner")]
+    LateOwner,
+    #[error("bad owner")]
+    BadOwner,
 }
 
 /// Why a text isn't read as a script: it is longer than 4 MiB, it has more than 20,000 lines, a line is

@@ -1,11 +1,13 @@
 // A script as it was read.
 ghost use Rattle.std.specs.Prelude.{◌≡◌, ◌<◌, IfOk, slice_get, length, Some};
 ghost use Rattle.service_calls.specs.Meanings.{model_request};
+ghost use Rattle.owner_space.specs.Naming.{names_by};
 ghost use Rattle.script_lang.specs.{Commands.key_id_of, Commands.request_of, Fields.room_at};
 
 use crate::commands::ScriptCommand;
 use crate::field_list::Fields;
 use key_attributes::KeyId;
+use owner_space::{Names, Owner};
 use psa_status::Memory;
 use service_calls::{Call, HandleCall, Op};
 use std::alloc::Global;
@@ -119,48 +121,55 @@ pub struct ScriptLine {
     pub call: ScriptCall,
 }
 
-/// The calls of a script, in its order.
+/// What a script says: its calls, in its order, and the owners of sessions 1 to 16, where a line states one.
 #[derive(Drop)]
 pub struct Script {
     lines: Vec<ScriptLine>,
+    owners: Option<[Owner; 16]>,
 }
 
 impl Model for Script {
-    ghost use Rattle.std.specs.Prelude.{List};
-    ghost use Rattle.script_lang.specs.declared.script.ScriptLine.{ScriptLine};
+    ghost use Rattle.script_lang.specs.Lines.{Said};
 
-    ghost Value = { List ScriptLine };
+    ghost Value = { Said };
 
-    ghost view = { λ s. s.lines.items };
+    ghost view = { λ s. record { lines = s.lines.items; owners = s.owners } };
 }
 
 impl Script {
-    /// The script of these lines, without taking memory.
-    pub(crate) fn of(lines: Vec<ScriptLine>) -> Script
-        ensures { result ≡ lines.items }
+    /// The script of these lines and owners, without taking memory.
+    pub(crate) fn of(lines: Vec<ScriptLine>, owners: Option<[Owner; 16]>) -> Script
+        ensures { result ≡ record { lines = lines.items; owners = owners } }
     {
-        Script { lines }
+        Script { lines, owners }
     }
 
     /// How many calls there are.
     pub fn count(&self) -> usize
-        ensures { result ≡ length self.now }
+        ensures { result ≡ length self.now.lines }
     {
         self.lines.len()
     }
 
     /// The call at a place, from 0.
     pub fn line(&self, place: usize) -> &ScriptLine
-        requires { place < length self.now }
-        ensures { slice_get self.now place ≡ Some result.now }
+        requires { place < length self.now.lines }
+        ensures { slice_get self.now.lines place ≡ Some result.now }
     {
         &self.lines[place]
     }
 
     /// All calls.
     pub fn lines(&self) -> &[ScriptLine]
-        ensures { result.now ≡ self.now }
+        ensures { result.now ≡ self.now.lines }
     {
         self.lines.as_slice()
+    }
+
+    /// How the sessions name keys: each as its owner does, where a line states an owner, and else as the store does.
+    pub fn names(&self) -> Names
+        ensures { result ≡ names_by self.now.owners }
+    {
+        Names::by(self.owners)
     }
 }

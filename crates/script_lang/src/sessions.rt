@@ -1,5 +1,5 @@
 // What is known of each session while its lines are read.
-ghost use Rattle.std.specs.Prelude.{◌≡◌, ℕ, List, None, OnOk, IfErr};
+ghost use Rattle.std.specs.Prelude.{◌≡◌, ℕ, List, None, OnOk, IfErr, false};
 ghost use Rattle.script_lang.specs.{declared.faults.LineError.TheVariants.Memory, Lines.given_place, Sessions.places_of};
 
 use crate::faults::LineError;
@@ -7,21 +7,25 @@ use crate::script::ByteList;
 use std::alloc::Global;
 use std::collections::HashMap;
 
-/// How many calls of a session were read, and at which place among them each name was given last.
+/// How many calls of a session were read, at which place among them each name was given last, and whether the session has
+/// stated its owner.
 #[derive(Drop)]
 pub(crate) struct SessionNames {
     pub calls: u32,
     pub names: HashMap<Vec<u8>, u32>,
+    pub stated: bool,
 }
 
 impl SessionNames {
     pub fn new(alloc: Global) -> SessionNames
         ensures calls { result.calls ≡ 0 }
+        ensures stated { result.stated ≡ false }
         ensures places { (name : List ℕ) → places_of result name ≡ None }
     {
         SessionNames {
             calls: 0,
             names: HashMap::new(alloc),
+            stated: false,
         }
     }
 
@@ -37,6 +41,7 @@ impl SessionNames {
     #[tactic(auto, unfolding(crate::specs::Sessions::places_of))]
     pub fn give(&mut self, name: Option<ByteList>) -> Result<(), LineError>
         ensures calls { self.new.calls ≡ self.old.calls }
+        ensures stated { self.new.stated ≡ self.old.stated }
         ensures ok { OnOk result ((n : List ℕ) → places_of self.new n ≡ given_place (places_of self.old) name self.old.calls n) }
         ensures err { IfErr result (λ e. e ≡ Memory) }
     {

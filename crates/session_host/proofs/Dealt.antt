@@ -1,5 +1,5 @@
 -- The numbers of the sessions that are dealt to a worker.
-use Rattle.session_host.proofs.Common.{All, All-push, All-set, All-weaker, AreDealt, AreKept, AreTaken, AreTurnsIn, Bool, Caller, HasAnswered, HasMade, HasSeated, HasSeen, HaveOwn, IfSome, IsFrom, IsNewCaller, List, None, Replies, ReplyForm, Session, Worker, World, [], ap, append-nil, append_assoc, arith, cond, dealt, entries_of, eq-eqb, eqb_tells, false, get_or, get_or-map, get_or-set_other, get_or-set_same, get_or_append_left, get_or_push, inl, inr, length, length-append, length-set, map-append, ne_eqb, numbers_of, refl, set, subst, suc, sym, take, take_more, true, vec_capacity, zero, ℕ, ◌%◌, ◌++◌, ◌+◌, ◌-◌, ◌<◌, ◌==◌, ◌∙◌, ◌∷◌, ◌≡◌, ◌≢◌, ◌≤◌}
+use Rattle.session_host.proofs.Common.{Names, All, All-push, All-set, All-weaker, AreDealt, AreKept, AreTaken, AreTurnsIn, Bool, Caller, HasAnswered, HasMade, HasSeated, HasSeen, HaveOwn, IfSome, IsFrom, IsNewCaller, List, None, Replies, ReplyForm, Session, Worker, World, [], ap, append-nil, append_assoc, arith, cond, dealt, entries_of, eq-eqb, eqb_tells, false, get_or, get_or-map, get_or-set_other, get_or-set_same, get_or_append_left, get_or_push, inl, inr, length, length-append, length-set, map-append, ne_eqb, numbers_of, refl, set, subst, suc, sym, take, take_more, true, vec_capacity, zero, ℕ, ◌%◌, ◌++◌, ◌+◌, ◌-◌, ◌<◌, ◌==◌, ◌∙◌, ◌∷◌, ◌≡◌, ◌≢◌, ◌≤◌}
 use Rattle.session_host.proofs.Told.{no_turns}
 use Rattle.session_host.specs.Workers as working
 
@@ -93,7 +93,7 @@ module _ {D A C : Type 0} where
       ]))
 
 -- a session that has made no call
-pub record IsFreshSession {D A C : Type 0} (w : World D A C) (form : ReplyForm) (s : Session D A C) : Type 0 where
+pub record IsFreshSession {D A C : Type 0} (w : World D A C) (names : Names) (form : ReplyForm) (s : Session D A C) : Type 0 where
   pub number : ℕ
   pub caller : IsNewCaller w number s.caller
   pub replies : AreKept s.replies []
@@ -102,46 +102,46 @@ pub record IsFreshSession {D A C : Type 0} (w : World D A C) (form : ReplyForm) 
   pub given : s.given.items ≡ []
 
 -- so many sessions are dealt, none of which has made a call
-pub record IsDealing {D A C : Type 0} (w : World D A C) (form : ReplyForm) (j : ℕ) (workers : List (Worker D A C)) : Type 0 where
+pub record IsDealing {D A C : Type 0} (w : World D A C) (names : Names) (form : ReplyForm) (j : ℕ) (workers : List (Worker D A C)) : Type 0 where
   pub own : HaveOwn j workers
-  pub fresh : (i : ℕ) (d : Worker D A C) → i < length workers → All (IsFreshSession w form) (get_or workers i d).sessions.items
+  pub fresh : (i : ℕ) (d : Worker D A C) → i < length workers → All (IsFreshSession w names form) (get_or workers i d).sessions.items
   pub space : (i : ℕ) (d : Worker D A C) → i < length workers → 16 ≤ vec_capacity (get_or workers i d).sessions
   pub buffer : (i : ℕ) (d : Worker D A C) → i < length workers → 16448 ≤ length (get_or workers i d).buffer.items
   pub last : (i : ℕ) (d : Worker D A C) → i < length workers → (get_or workers i d).last ≡ None
 
 -- a new caller has made no call
-pub none_made : {D A C : Type 0} (w : World D A C) (n : ℕ) (c : Caller D A C) → IsNewCaller w n c → HasMade w [] c
-none_made w n c new = record {
+pub none_made : {D A C : Type 0} (w : World D A C) (names : Names) (n : ℕ) (c : Caller D A C) → IsNewCaller w n c → HasMade w names [] c
+none_made w names n c new = record {
   ready = new.ready;
   spent = let s = new.spent in omega arith;
   turns = [];
-  made = subst (λ s. AreTurnsIn w (entries_of s) c.number [] []) (sym new.unseen) (no_turns w c.number);
+  made = subst (λ s. AreTurnsIn w names (entries_of s) c.number [] []) (sym new.unseen) (no_turns w names c.number);
 }
 
 pub same_long : {D A C : Type 0} (sessions : List (Session D A C)) → length (numbers_of sessions) ≡ length sessions
 same_long [] = refl
 same_long (s ∷ sessions) = ap suc (same_long sessions)
 
-module _ {D A C : Type 0} (w : World D A C) (form : ReplyForm) where
-  pub dealing_one : (j : ℕ) (workers : List (Worker D A C)) (t : Worker D A C) (s : Session D A C) → IsDealing w form j workers → (16 - j) % length workers < length workers →
-      ((d : Worker D A C) → HasSeated (get_or workers ((16 - j) % length workers) d) t s) → IsFreshSession w form s → s.caller.number ≡ 16 - j → IsDealing w form (j + 1) (set workers ((16 - j) % length workers) t)
+module _ {D A C : Type 0} (w : World D A C) (names : Names) (form : ReplyForm) where
+  pub dealing_one : (j : ℕ) (workers : List (Worker D A C)) (t : Worker D A C) (s : Session D A C) → IsDealing w names form j workers → (16 - j) % length workers < length workers →
+      ((d : Worker D A C) → HasSeated (get_or workers ((16 - j) % length workers) d) t s) → IsFreshSession w names form s → s.caller.number ≡ 16 - j → IsDealing w names form (j + 1) (set workers ((16 - j) % length workers) t)
   dealing_one j workers t s h within seated f number =
       let r : ℕ = (16 - j) % length workers in let was = seated t in record {
         own = dealt_one j workers t s h.own within seated number;
-        fresh = All-set (λ x. All (IsFreshSession w form) x.sessions.items) workers r t (subst (All (IsFreshSession w form)) (sym was.sessions) (All-push (IsFreshSession w form) (get_or workers r t).sessions.items s (h.fresh r t within) f)) h.fresh;
+        fresh = All-set (λ x. All (IsFreshSession w names form) x.sessions.items) workers r t (subst (All (IsFreshSession w names form)) (sym was.sessions) (All-push (IsFreshSession w names form) (get_or workers r t).sessions.items s (h.fresh r t within) f)) h.fresh;
         space = All-set (λ x. 16 ≤ vec_capacity x.sessions) workers r t (let a = was.space in let b = h.space r t within in omega arith) h.space;
         buffer = All-set (λ x. 16448 ≤ length x.buffer.items) workers r t (let a = ap (λ b. length b.items) was.buffer in let b = h.buffer r t within in omega arith) h.buffer;
         last = All-set (λ x. x.last ≡ None) workers r t (was.last ∙ h.last r t within) h.last;
       }
 
-  none_answered : (s : Session D A C) → IsFreshSession w form s → HasAnswered w [] s
+  none_answered : (s : Session D A C) → IsFreshSession w names form s → HasAnswered w names [] s
   unfolding none_made
   none_answered s f = record {
     replies = record {
-      told = [];
+      replied = [];
       kept = f.replies;
       session = f.session;
-      replies = record { made = none_made w f.number s.caller f.caller; printed = refl };
+      replies = record { made = none_made w names f.number s.caller f.caller; printed = refl };
     };
     given = f.given;
   }
@@ -153,14 +153,14 @@ module _ {D A C : Type 0} (w : World D A C) (form : ReplyForm) where
       apart i j (omega arith) (omega arith) (at i li ∙ (same ∙ sym (at j lj)))
 
   -- all are dealt
-  pub all_dealt : (workers : List (Worker D A C)) → IsDealing w form 16 workers → AreDealt w form workers
+  pub all_dealt : (workers : List (Worker D A C)) → IsDealing w names form 16 workers → AreDealt w names form workers
   all_dealt workers h = record {
     own = h.own;
-    forms = λ i d lt. All-weaker (IsFreshSession w form) (λ s. s.replies.form ≡ form) (λ s f. f.form_is) (get_or workers i d).sessions.items (h.fresh i d lt);
+    forms = λ i d lt. All-weaker (IsFreshSession w names form) (λ s. s.replies.form ≡ form) (λ s f. f.form_is) (get_or workers i d).sessions.items (h.fresh i d lt);
     begun = λ i d lt. record {
       room = h.buffer i d lt;
       apart = apart_by_numbers (get_or workers i d).sessions.items (dealt (length workers) i 16) (h.own i d lt) (dealt_apart (length workers) i 16 (omega arith));
-      answered = All-weaker (IsFreshSession w form) (HasAnswered w []) none_answered (get_or workers i d).sessions.items (h.fresh i d lt);
+      answered = All-weaker (IsFreshSession w names form) (HasAnswered w names []) none_answered (get_or workers i d).sessions.items (h.fresh i d lt);
       last = subst (λ o. IfSome o (λ k. k < length (get_or workers i d).sessions.items)) (sym (h.last i d lt)) tt;
       order = λ all. subst (HasSeen [] (get_or workers i d).sessions.items) (sym (h.last i d lt)) refl;
     };

@@ -1,5 +1,5 @@
 -- From what threads have worked to what sixteen callers have made.
-use Rattle.session_host.proofs.Common.{All, AreAllKept, AreCalledIn, AreCallers, AreDealt, AreKept, AreStaff, AreTaken, Caller, HasMade, HasReplies, HasSeen, HasWorked, HaveKept, HaveMade, HaveOwn, HaveRun, HaveSeen, IsFrom, IsOfSession, IsOurs, List, None, Option, Replies, ReplyForm, ReplyLine, ScriptLine, Session, Some, Worker, World, [], all_replies, ap, ap₂, arith, cond, dealt, entries_of, flat_map, get_or, get_or_default, inl, inr, is_success, length, length-append, refl, subst, suc, sum_by-append, sum_by-cons, sym, take, text_in, true, zero, ℕ, ◌++◌, ◌+◌, ◌-◌, ◌<◌, ◌∙◌, ◌∷◌, ◌≡◌, ◌≤◌}
+use Rattle.session_host.proofs.Common.{Names, All, AreAllKept, AreCalledIn, AreCallers, AreDealt, AreKept, AreStaff, AreTaken, Caller, HasMade, HasReplies, HasSeen, HasWorked, HaveKept, HaveMade, HaveOwn, HaveRun, HaveSeen, IsFrom, IsOfSession, IsOurs, List, None, Option, Replies, ReplyForm, ReplyLine, ScriptLine, Session, Some, Worker, World, [], all_replies, ap, ap₂, arith, cond, dealt, entries_of, flat_map, get_or, get_or_default, inl, inr, is_success, length, length-append, refl, subst, suc, sum_by-append, sum_by-cons, sym, take, text_in, true, zero, ℕ, ◌++◌, ◌+◌, ◌-◌, ◌<◌, ◌∙◌, ◌∷◌, ◌≡◌, ◌≤◌}
 use Rattle.std.proofs.lemmas.Grind.{flat_map-append}
 use Rattle.session_host.proofs.Dealt.{none_made}
 
@@ -9,11 +9,11 @@ some_of [] some = absurd (omega arith)
 some_of (x ∷ xs) some = x
 
 -- new callers have made no call
-pub have_made_none : {D A C : Type 0} (w : World D A C) (lines : List ScriptLine) (callers : List (Caller D A C)) → AreStaff w callers → HaveMade w lines callers
-have_made_none {D} {A} {C} w lines callers staff =
+pub have_made_none : {D A C : Type 0} (w : World D A C) (names : Names) (lines : List ScriptLine) (callers : List (Caller D A C)) → AreStaff w callers → HaveMade w names lines callers
+have_made_none {D} {A} {C} w names lines callers staff =
     let each = λ (k : ℕ) (d : Caller D A C) (within : k < 16). staff.each k d (omega (arith, within, staff.sixteen)) in record {
       are = record { sixteen = staff.sixteen; numbers = λ k d within. (each k d within).number_is };
-      each = λ k d within. (0, none_made w (k + 1) (get_or callers k d) (each k d within));
+      each = λ k d within. (0, none_made w names (k + 1) (get_or callers k d) (each k d within));
     }
 
 at_each : {X Y : Type 0} (P : ℕ → X → Y → Type 0) (x : X) (xs : List X) (y : Y) (ys : List Y) → P 0 x y →
@@ -45,9 +45,9 @@ all_kept form (k ∷ ks) (t ∷ ts) same each =
       text = ap₂ (λ a b. a ++ b) (first.0.text ∙ ap (λ f. flat_map (text_in f) t) first.1) rest.text ∙ sym (flat_map-append (text_in form) t (all_replies ts));
     }
 
-module _ {D A C : Type 0} (w : World D A C) (lines : List ScriptLine) (old new : List (Worker D A C))
-    (form : ReplyForm) (begun : AreDealt w form old) (as_many : length new ≡ length old)
-    (worked : (k : ℕ) (d : Worker D A C) → k < length old → HasWorked w lines (get_or old k d) (get_or new k d)) where
+module _ {D A C : Type 0} (w : World D A C) (names : Names) (lines : List ScriptLine) (old new : List (Worker D A C))
+    (form : ReplyForm) (begun : AreDealt w names form old) (as_many : length new ≡ length old)
+    (worked : (k : ℕ) (d : Worker D A C) → k < length old → HasWorked w names lines (get_or old k d) (get_or new k d)) where
   -- each worker has its sessions still
   pub own_after : HaveOwn 16 new
   own_after i d within =
@@ -57,7 +57,7 @@ module _ {D A C : Type 0} (w : World D A C) (lines : List ScriptLine) (old new :
   module _ (callers : List (Caller D A C)) (replies : List Replies) (taken : AreTaken 16 new callers replies) where
     -- a session's replies are these lines, and are kept so
     record IsKeptAs (c : Caller D A C) (k : ℕ) (kept : Replies) (told : List ReplyLine) : Type 0 where
-      replied_as : HasReplies w lines (get_or callers k c) told
+      replied_as : HasReplies w names lines (get_or callers k c) told
       kept_as : AreKept kept told
       form_is : kept.form ≡ form
 
@@ -78,14 +78,14 @@ module _ {D A C : Type 0} (w : World D A C) (lines : List ScriptLine) (old new :
     are_callers : AreCallers callers
     are_callers = record { sixteen = taken.callers_are; numbers = λ k c within. (from k c within).number_is }
 
-    pub have_made : HaveMade w lines callers
+    pub have_made : HaveMade w names lines callers
     have_made = record {
       are = are_callers;
-      each = each_caller (λ c. (n : ℕ) × HasMade w (take n lines) c) (λ i t there. (worked i t (omega (arith, there, as_many))).made);
+      each = each_caller (λ c. (n : ℕ) × HasMade w names (take n lines) c) (λ i t there. (worked i t (omega (arith, there, as_many))).made);
     }
 
     module _ (whole : (k : ℕ) (t : Worker D A C) → k < length new → (get_or new k t).whole ≡ true) where
-      run_of : (i : ℕ) (t : Worker D A C) → i < length new → HaveRun w lines (get_or new i t)
+      run_of : (i : ℕ) (t : Worker D A C) → i < length new → HaveRun w names lines (get_or new i t)
       run_of i t there = (worked i t (omega (arith, there, as_many))).whole (whole i t there)
 
       -- what is kept of a session's replies
@@ -98,15 +98,15 @@ module _ {D A C : Type 0} (w : World D A C) (lines : List ScriptLine) (old new :
           let a = ((run_of f.worker t f.there).answered f.place s (f.within t)).replies in
           let there : f.worker < length old = (let l = f.there in omega (arith, as_many)) in
           let has_form : own.replies.form ≡ form = (worked f.worker t there).forms form (begun.forms f.worker t there) f.place s (f.within t) in (
-            a.told,
+            a.replied,
             record {
-              replied_as = subst (λ z. HasReplies w lines z a.told) (f.caller_is t s) a.replies;
-              kept_as = subst (λ z. AreKept z a.told) (f.replies_are t s) a.kept;
+              replied_as = subst (λ z. HasReplies w names lines z a.replied) (f.caller_is t s) a.replies;
+              kept_as = subst (λ z. AreKept z a.replied) (f.replies_are t s) a.kept;
               form_is = subst (λ (z : Replies). z.form ≡ form) (f.replies_are t s) has_form;
             },
           )
 
-      pub have_kept : HaveKept w lines callers form replies
+      pub have_kept : HaveKept w names lines callers form replies
       have_kept =
           let c : Caller D A C = some_of callers (let n = taken.callers_are in omega arith) in
           let few : (k : ℕ) → k < length replies → k < 16 = λ k lt. (let n = taken.replies_are in omega (arith, lt)) in
@@ -118,7 +118,7 @@ module _ {D A C : Type 0} (w : World D A C) (lines : List ScriptLine) (old new :
               replied = λ k d r within.
                   let lt : k < length replies = (let n = taken.replies_are in omega (arith, within)) in
                   let there : k < length callers = (let n = taken.callers_are in omega (arith, within)) in
-                  subst (λ (x : Caller D A C). HasReplies w lines x (get_or told k r)) (get_or_default callers k c d there) (all.2 k a_reply r lt).replied_as;
+                  subst (λ (x : Caller D A C). HasReplies w names lines x (get_or told k r)) (get_or_default callers k c d there) (all.2 k a_reply r lt).replied_as;
             };
             all = all_kept form replies told all.1 (λ k x y lt. let h = all.2 k x y lt in (h.kept_as, h.form_is));
             sixteen = taken.replies_are;
@@ -136,7 +136,7 @@ module _ {D A C : Type 0} (w : World D A C) (lines : List ScriptLine) (old new :
         only : Worker D A C
         only = get_or new 0 t
 
-        run : HaveRun w lines only
+        run : HaveRun w names lines only
         unfolding only
         run = run_of 0 t (omega (arith, one))
 

@@ -1,5 +1,5 @@
 -- A session's calls in a history that goes on, and its turns.
-use Rattle.session_host.proofs.Common.{AreCalls, Bool, Entry, List, ScriptLine, StartsWith, Turn, [], ap, append-nil, append_assoc, arith, caller_of, calls-append, calls_by, choose, cond, eq-eqb, false, filter, filter-append, id_given, length, map, numbered, printed, refl, request_of, suc, sym, true, ℕ, ◌++◌, ◌+◌, ◌==◌, ◌∙◌, ◌∷◌, ◌≡◌}
+use Rattle.session_host.proofs.Common.{AreCalls, Bool, Names, asked, Entry, List, ScriptLine, StartsWith, Turn, [], ap, append-nil, append_assoc, arith, caller_of, calls-append, calls_by, choose, cond, eq-eqb, false, filter, filter-append, id_given, length, map, numbered, printed, refl, request_of, suc, sym, true, ℕ, ◌++◌, ◌+◌, ◌==◌, ◌∙◌, ◌∷◌, ◌≡◌}
 
 -- where no entry is the session's, nothing stands for one
 
@@ -33,23 +33,23 @@ last_call session before e by = calls-append caller_of session before (e ∷ [])
 
 -- the calls of lines, and one more
 
-pub calls_more : (ids : List ℕ) (lines : List ScriptLine) (ts : List Turn) (line : ScriptLine) (t : Turn) → AreCalls ids lines ts →
-    t.entry.caller ≡ line.session → t.entry.call ≡ request_of (ids ++ map (λ t. id_given t.reply.output) ts) line.call → AreCalls ids (lines ++ line ∷ []) (ts ++ t ∷ [])
-calls_more ids [] [] line t h s c = (s, c ∙ ap (λ is. request_of is line.call) (append-nil ids), tt)
-calls_more ids [] (u ∷ ts) line t h s c = absurd h
-calls_more ids (l ∷ lines) [] line t h s c = absurd h
-calls_more ids (l ∷ lines) (u ∷ ts) line t h s c = (
+pub calls_more : (names : Names) (ids : List ℕ) (lines : List ScriptLine) (ts : List Turn) (line : ScriptLine) (t : Turn) → AreCalls names ids lines ts →
+    t.entry.caller ≡ line.session → t.entry.call ≡ asked names line.session (request_of (ids ++ map (λ t. id_given t.reply.output) ts) line.call) → AreCalls names ids (lines ++ line ∷ []) (ts ++ t ∷ [])
+calls_more names ids [] [] line t h s c = (s, c ∙ ap (λ is. asked names line.session (request_of is line.call)) (append-nil ids), tt)
+calls_more names ids [] (u ∷ ts) line t h s c = absurd h
+calls_more names ids (l ∷ lines) [] line t h s c = absurd h
+calls_more names ids (l ∷ lines) (u ∷ ts) line t h s c = (
   h.0,
   h.1,
-  calls_more (ids ++ id_given u.reply.output ∷ []) lines ts line t h.2 s
-      (c ∙ ap (λ is. request_of is line.call) (sym (append_assoc ids (id_given u.reply.output ∷ []) (map (λ t. id_given t.reply.output) ts)))),
+  calls_more names (ids ++ id_given u.reply.output ∷ []) lines ts line t h.2 s
+      (c ∙ ap (λ is. asked names line.session (request_of is line.call)) (sym (append_assoc ids (id_given u.reply.output ∷ []) (map (λ t. id_given t.reply.output) ts)))),
 )
 
-pub calls_length : (ids : List ℕ) (lines : List ScriptLine) (ts : List Turn) → AreCalls ids lines ts → length lines ≡ length ts
-calls_length ids [] [] h = refl
-calls_length ids [] (u ∷ ts) h = absurd h
-calls_length ids (l ∷ lines) [] h = absurd h
-calls_length ids (l ∷ lines) (u ∷ ts) h = let r = calls_length (ids ++ id_given u.reply.output ∷ []) lines ts h.2 in omega arith
+pub calls_length : (names : Names) (ids : List ℕ) (lines : List ScriptLine) (ts : List Turn) → AreCalls names ids lines ts → length lines ≡ length ts
+calls_length names ids [] [] h = refl
+calls_length names ids [] (u ∷ ts) h = absurd h
+calls_length names ids (l ∷ lines) [] h = absurd h
+calls_length names ids (l ∷ lines) (u ∷ ts) h = let r = calls_length names (ids ++ id_given u.reply.output ∷ []) lines ts h.2 in omega arith
 
 pub kept_own : {X : Type 0} (p : X → Bool) (xs : List X) (x : X) → p x ≡ true → filter p (xs ++ x ∷ []) ≡ filter p xs ++ x ∷ []
 kept_own p xs x e = filter-append p xs (x ∷ []) ∙ ap (λ b. filter p xs ++ cond b (x ∷ []) []) e

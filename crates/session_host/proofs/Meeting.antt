@@ -1,37 +1,12 @@
 -- Callers that have seen what others of their thread had.
-use Rattle.session_host.proofs.Common.{AreKept, AreTurnsIn, Caller, ChangesAt, Entry, HasAnswered, HasLearned, IsReady, List, Opened, Replies, ScriptLine, Session, StartsWith, View, World, [], ap, arith, begins_itself, caller_of, calls_by, entries_of, get_or, get_or-set_other, get_or-set_same, joined, length, length-set, lines_of, refl, seen_begins, set, subst, sym, ℕ, ◌<◌, ◌∙◌, ◌∷◌, ◌≡◌}
+use Rattle.session_host.proofs.Common.{AreKept, AreTurnsIn, Caller, ChangesAt, Entry, HasAnswered, HasLearned, IsReady, List, Names, Opened, Replies, ScriptLine, Session, StartsWith, View, World, [], ap, arith, begins_itself, caller_of, calls_by, entries_of, get_or, get_or-set_other, get_or-set_same, joined, length, length-set, lines_of, refl, seen_begins, set, subst, sym, ℕ, ◌<◌, ◌∙◌, ◌∷◌, ◌≡◌}
 use Rattle.std.specs.Global.{Vec}
 use Rattle.callers.specs.Parts.{SameButPass}
 use Rattle.session_host.proofs.Told.{own_calls, turns_later}
 
+-- A CALLER THAT HAS SEEN MORE
+
 module _ {D A C : Type 0} (w : World D A C) where
-  -- A CALLER THAT HAS SEEN MORE
-
-  pub learned : (lines : List ScriptLine) (old new : Session D A C) → HasLearned w old new → HasAnswered w lines old → HasAnswered w lines new
-  learned lines old new l h =
-      let n : ℕ = old.caller.number in let c : Caller D A C = old.caller in let d : Caller D A C = new.caller in
-      let made = h.replies.replies.made in
-      let was : calls_by caller_of n (entries_of c.pass.me.0.seen) ≡ c.pass.me.0.calls = own_calls w c made.ready in
-      let now : calls_by caller_of n (entries_of d.pass.me.0.seen) ≡ d.pass.me.0.calls = subst (λ k. calls_by caller_of k (entries_of d.pass.me.0.seen) ≡ d.pass.me.0.calls) l.number (own_calls w d l.ready) in
-      record {
-        replies = record {
-          told = h.replies.told;
-          kept = subst (λ k. AreKept k h.replies.told) (sym l.replies) h.replies.kept;
-          session = ap (λ k. k.session) l.replies ∙ (h.replies.session ∙ sym l.number);
-          replies = record {
-            made = record {
-              ready = l.ready;
-              spent = let a = made.spent in let b = l.spent in omega arith;
-              turns = made.turns;
-              made = subst (λ k. AreTurnsIn w (entries_of d.pass.me.0.seen) k (lines_of k lines) made.turns) (sym l.number)
-                  (turns_later w n (entries_of d.pass.me.0.seen) (entries_of c.pass.me.0.seen) (lines_of n lines) made.turns l.seen (now ∙ (l.calls ∙ sym was)) made.made);
-            };
-            printed = h.replies.replies.printed;
-          };
-        };
-        given = ap (λ v. v.items) l.given ∙ h.given;
-      }
-
   pub has_learned : (old new : Caller D A C) (replies : Replies) (given : Vec ℕ) (other : View Entry (Opened D A C)) → IsReady w 0 new → new.pass.me.0 ≡ joined old.pass.me.0 other → StartsWith new.pass.me.0.seen old.pass.me.0.seen →
       SameButPass old new → HasLearned w (record { caller = old; replies = replies; given = given }) (record { caller = new; replies = replies; given = given })
   has_learned old new replies given other ready is seen same = record {
@@ -43,6 +18,32 @@ module _ {D A C : Type 0} (w : World D A C) where
     replies = refl;
     given = refl;
   }
+
+module _ {D A C : Type 0} (w : World D A C) (names : Names) where
+  pub learned : (lines : List ScriptLine) (old new : Session D A C) → HasLearned w old new → HasAnswered w names lines old → HasAnswered w names lines new
+  learned lines old new l h =
+      let n : ℕ = old.caller.number in let c : Caller D A C = old.caller in let d : Caller D A C = new.caller in
+      let made = h.replies.replies.made in
+      let was : calls_by caller_of n (entries_of c.pass.me.0.seen) ≡ c.pass.me.0.calls = own_calls w names c made.ready in
+      let now : calls_by caller_of n (entries_of d.pass.me.0.seen) ≡ d.pass.me.0.calls = subst (λ k. calls_by caller_of k (entries_of d.pass.me.0.seen) ≡ d.pass.me.0.calls) l.number (own_calls w names d l.ready) in
+      record {
+        replies = record {
+          replied = h.replies.replied;
+          kept = subst (λ k. AreKept k h.replies.replied) (sym l.replies) h.replies.kept;
+          session = ap (λ k. k.session) l.replies ∙ (h.replies.session ∙ sym l.number);
+          replies = record {
+            made = record {
+              ready = l.ready;
+              spent = let a = made.spent in let b = l.spent in omega arith;
+              turns = made.turns;
+              made = subst (λ k. AreTurnsIn w names (entries_of d.pass.me.0.seen) k (lines_of k lines) made.turns) (sym l.number)
+                  (turns_later w names n (entries_of d.pass.me.0.seen) (entries_of c.pass.me.0.seen) (lines_of n lines) made.turns l.seen (now ∙ (l.calls ∙ sym was)) made.made);
+            };
+            printed = h.replies.replies.printed;
+          };
+        };
+        given = ap (λ v. v.items) l.given ∙ h.given;
+      }
 
 -- A SESSION AMONG OTHERS
 

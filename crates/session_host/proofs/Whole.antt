@@ -1,5 +1,5 @@
 -- From what callers know, and from what a closed service says, to the one order of a script's calls.
-use Rattle.session_host.proofs.Common.{All, All-head, All-nil, All-tail, AreCalledIn, AreTurnsIn, Caller, Entry, HasMade, HaveAnswered, HaveSeen, IsInLineOrder, IsOfSession, IsTurnIn, List, ReplyLine, ScriptLine, Service, StartsWith, Turn, World, [], all_replies, ap, append-nil, append_assoc, arith, caller_of, calls_by, choose, cond, entries_of, eqb, eqb_tells, failure_marked, failure_of, failure_told, failures_of, failures_to, false, flat_map, get_or, get_or_default, inl, inr, leb_tells, length, length-map, lines_of, map, map-append, ne_eqb, numbered, ranked_call, refl, replies_to, subst, suc, sym, take, zero, ℕ, ◌++◌, ◌+◌, ◌-◌, ◌<◌, ◌∙◌, ◌∷◌, ◌≡◌, ◌≤◌, ◌⊎◌, IsStartOf}
+use Rattle.session_host.proofs.Common.{Names, All, All-head, All-nil, All-tail, AreCalledIn, AreTurnsIn, Caller, Entry, HasMade, HaveAnswered, HaveSeen, IsInLineOrder, IsOfSession, IsTurnIn, List, ReplyLine, ScriptLine, Service, StartsWith, Turn, World, [], all_replies, ap, append-nil, append_assoc, arith, caller_of, calls_by, choose, cond, entries_of, eqb, eqb_tells, failure_marked, failure_of, failure_told, failures_of, failures_to, false, flat_map, get_or, get_or_default, inl, inr, leb_tells, length, length-map, lines_of, map, map-append, ne_eqb, numbered, ranked_call, refl, replies_to, subst, suc, sym, take, zero, ℕ, ◌++◌, ◌+◌, ◌-◌, ◌<◌, ◌∙◌, ◌∷◌, ◌≡◌, ◌≤◌, ◌⊎◌, IsStartOf}
 use Rattle.session_host.proofs.{History.calls_length, Places.as_many, Places.map_of_calls, Order.in_line_order, Order.within_whole, Told.no_turns, Told.own_calls, Told.turns_later}
 
 -- SESSIONS THAT THERE ARE, AND OTHERS
@@ -63,16 +63,16 @@ lines_tell : (n : ℕ) (turns : List Turn) → map failure_of (numbered n turns)
 lines_tell n [] = refl
 lines_tell n (t ∷ turns) = ap (λ fs. failure_told t.reply.status ∷ fs) (lines_tell (n + 1) turns)
 
-module _ {D A C : Type 0} (w : World D A C) (start : Service) (is : IsStartOf w start) (history : List Entry) where
-  turns_tell : (turns : List Turn) → All (IsTurnIn w history) turns → map (λ t. failure_told t.reply.status) turns ≡ map (λ t. failure_marked t.entry.mark) turns
+module _ {D A C : Type 0} (w : World D A C) (names : Names) (start : Service) (is : IsStartOf w start) (history : List Entry) where
+  turns_tell : (turns : List Turn) → All (IsTurnIn w names history) turns → map (λ t. failure_told t.reply.status) turns ≡ map (λ t. failure_marked t.entry.mark) turns
   turns_tell [] all = refl
-  turns_tell (t ∷ turns) all = λ i. (All-head (IsTurnIn w history) t turns all).reply.failure start is i ∷ turns_tell turns (All-tail (IsTurnIn w history) t turns all) i
+  turns_tell (t ∷ turns) all = λ i. (All-head (IsTurnIn w names history) t turns all).reply.failure start is i ∷ turns_tell turns (All-tail (IsTurnIn w names history) t turns all) i
 
   map_again : {X Y Z : Type 0} (f : Y → Z) (g : X → Y) (xs : List X) → map (λ x. f (g x)) xs ≡ map f (map g xs)
   map_again f g [] = refl
   map_again f g (x ∷ xs) = ap (λ l. f (g x) ∷ l) (map_again f g xs)
 
-  session_tells : (session : ℕ) (lines : List ScriptLine) (turns : List Turn) → AreTurnsIn w history session lines turns → map failure_of (numbered 1 turns) ≡ failures_of session history
+  session_tells : (session : ℕ) (lines : List ScriptLine) (turns : List Turn) → AreTurnsIn w names history session lines turns → map failure_of (numbered 1 turns) ≡ failures_of session history
   session_tells session lines turns are =
       lines_tell 1 turns
       ∙ (turns_tell turns are.each
@@ -81,7 +81,7 @@ module _ {D A C : Type 0} (w : World D A C) (start : Service) (is : IsStartOf w 
       ∙ map_of_calls (λ (p : ℕ × Entry). failure_marked p.1.mark) (λ rank e. (rank, e)) session 0 history)))
 
   -- reply lines tell of the failures that the history's marks are of
-  pub replies_tell : (lines : ℕ → List ScriptLine) (turns : ℕ → List Turn) → ((session : ℕ) → AreTurnsIn w history session (lines session) (turns session)) → (n : ℕ) →
+  pub replies_tell : (lines : ℕ → List ScriptLine) (turns : ℕ → List Turn) → ((session : ℕ) → AreTurnsIn w names history session (lines session) (turns session)) → (n : ℕ) →
       map failure_of (replies_to n turns) ≡ failures_to n history
   replies_tell lines turns are zero = refl
   replies_tell lines turns are (suc n) =
@@ -90,7 +90,7 @@ module _ {D A C : Type 0} (w : World D A C) (start : Service) (is : IsStartOf w 
 
 -- THE ONE ORDER
 
-module _ {D A C : Type 0} (w : World D A C) (lines : List ScriptLine) (callers : List (Caller D A C)) (history : List Entry)
+module _ {D A C : Type 0} (w : World D A C) (names : Names) (lines : List ScriptLine) (callers : List (Caller D A C)) (history : List Entry)
     (sixteen : length callers ≡ 16)
     (numbers : (k : ℕ) (d : Caller D A C) → k < 16 → (get_or callers k d).number ≡ k + 1)
     (sessions : All IsOfSession lines)
@@ -98,28 +98,28 @@ module _ {D A C : Type 0} (w : World D A C) (lines : List ScriptLine) (callers :
     (seen : All (λ (c : Caller D A C). StartsWith history (entries_of c.pass.me.0.seen)) callers)
     (called : All (λ (c : Caller D A C). calls_by caller_of c.pass.me.0.number history ≡ c.pass.me.0.calls) callers) where
   -- a caller's entries in the history are those that it has seen
-  same_calls : (ran : List ScriptLine) (k : ℕ) (d : Caller D A C) → k < 16 → HasMade w ran (get_or callers k d) →
+  same_calls : (ran : List ScriptLine) (k : ℕ) (d : Caller D A C) → k < 16 → HasMade w names ran (get_or callers k d) →
       calls_by caller_of (get_or callers k d).number history ≡ calls_by caller_of (get_or callers k d).number (entries_of (get_or callers k d).pass.me.0.seen)
   same_calls ran k d within made =
       let c : Caller D A C = get_or callers k d in
       let there : calls_by caller_of c.pass.me.0.number history ≡ c.pass.me.0.calls = called k d (omega (arith, within, sixteen)) in
-      subst (λ n. calls_by caller_of n history ≡ c.pass.me.0.calls) made.ready.number there ∙ sym (own_calls w c made.ready)
+      subst (λ n. calls_by caller_of n history ≡ c.pass.me.0.calls) made.ready.number there ∙ sym (own_calls w names c made.ready)
 
   -- a caller's turns are its session's in the history
-  by_caller : (session : ℕ) (ran : List ScriptLine) (k : ℕ) (d : Caller D A C) → k < 16 → k + 1 ≡ session → (m : HasMade w ran (get_or callers k d)) → AreTurnsIn w history session (lines_of session ran) m.turns
+  by_caller : (session : ℕ) (ran : List ScriptLine) (k : ℕ) (d : Caller D A C) → k < 16 → k + 1 ≡ session → (m : HasMade w names ran (get_or callers k d)) → AreTurnsIn w names history session (lines_of session ran) m.turns
   by_caller session ran k d within is m =
       let c : Caller D A C = get_or callers k d in
-      subst (λ s. AreTurnsIn w history s (lines_of s ran) m.turns) (numbers k d within ∙ is)
-      (turns_later w c.number history (entries_of c.pass.me.0.seen) (lines_of c.number ran) m.turns (seen k d (omega (arith, within, sixteen))) (same_calls ran k d within m) m.made)
+      subst (λ s. AreTurnsIn w names history s (lines_of s ran) m.turns) (numbers k d within ∙ is)
+      (turns_later w names c.number history (entries_of c.pass.me.0.seen) (lines_of c.number ran) m.turns (seen k d (omega (arith, within, sixteen))) (same_calls ran k d within m) m.made)
 
-  by_none : (session : ℕ) (ran : List ScriptLine) → IsOther session → All IsOfSession ran → AreTurnsIn w history session (lines_of session ran) []
+  by_none : (session : ℕ) (ran : List ScriptLine) → IsOther session → All IsOfSession ran → AreTurnsIn w names history session (lines_of session ran) []
   by_none session ran other all =
-      subst (λ ls. AreTurnsIn w history session ls []) (sym (no_lines session ran other all))
-      (turns_later w session history [] [] [] (history, refl) (no_entries session history other signed) (no_turns w session))
+      subst (λ ls. AreTurnsIn w names history session ls []) (sym (no_lines session ran other all))
+      (turns_later w names session history [] [] [] (history, refl) (no_entries session history other signed) (no_turns w names session))
 
   -- each session's calls are those of the first so many lines
-  pub first_calls : ((k : ℕ) (d : Caller D A C) → k < 16 → (n : ℕ) × HasMade w (take n lines) (get_or callers k d)) → (d : Caller D A C) → (session : ℕ) →
-      (n : ℕ) × (turns : List Turn) × AreTurnsIn w history session (lines_of session (take n lines)) turns
+  pub first_calls : ((k : ℕ) (d : Caller D A C) → k < 16 → (n : ℕ) × HasMade w names (take n lines) (get_or callers k d)) → (d : Caller D A C) → (session : ℕ) →
+      (n : ℕ) × (turns : List Turn) × AreTurnsIn w names history session (lines_of session (take n lines)) turns
   first_calls made d session = elim (which session) [
     | inl own ↦
         let k : ℕ = session - 1 in let within : k < 16 = omega (arith, own.0, own.1) in let m = made k d within in
@@ -130,10 +130,10 @@ module _ {D A C : Type 0} (w : World D A C) (lines : List ScriptLine) (callers :
   -- where all lines were run, a session's turns, and the reply lines that are printed of them
   pub record HasTurns (told : List (List ReplyLine)) (session : ℕ) : Type 0 where
     pub turns : List Turn
-    pub own : AreTurnsIn w history session (lines_of session lines) turns
+    pub own : AreTurnsIn w names history session (lines_of session lines) turns
     pub printed : (k : ℕ) (r : List ReplyLine) → k < 16 → k + 1 ≡ session → get_or told k r ≡ numbered 1 turns
 
-  pub turns_of_session : (told : List (List ReplyLine)) (d : Caller D A C) (r : List ReplyLine) → HaveAnswered w lines callers told → (session : ℕ) → HasTurns told session
+  pub turns_of_session : (told : List (List ReplyLine)) (d : Caller D A C) (r : List ReplyLine) → HaveAnswered w names lines callers told → (session : ℕ) → HasTurns told session
   unfolding IsOther
   turns_of_session told d r h session = elim (which session) [
     | inl own ↦
@@ -157,11 +157,11 @@ module _ {D A C : Type 0} (w : World D A C) (lines : List ScriptLine) (callers :
       outside session (inl none) k below same = absurd (omega (arith, none, same))
       outside session (inr above) k below same = absurd (omega (arith, below, same, above))
 
-  module _ (told : List (List ReplyLine)) (d : Caller D A C) (r : List ReplyLine) (h : HaveAnswered w lines callers told) where
+  module _ (told : List (List ReplyLine)) (d : Caller D A C) (r : List ReplyLine) (h : HaveAnswered w names lines callers told) where
     abbrev pub turns : (session : ℕ) → List Turn
     turns session = (turns_of_session told d r h session).turns
 
-    pub own_turns : (session : ℕ) → AreTurnsIn w history session (lines_of session lines) (turns session)
+    pub own_turns : (session : ℕ) → AreTurnsIn w names history session (lines_of session lines) (turns session)
     own_turns session = (turns_of_session told d r h session).own
 
     -- these are the replies of the one order

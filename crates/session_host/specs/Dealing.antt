@@ -2,6 +2,7 @@
 use Rattle.std.specs.Prelude.{ℕ, ◌≡◌, ◌≤◌, ◌<◌, ◌+◌, ◌-◌, ◌%◌, ◌==◌, ◌∷◌, ◌++◌, cond, zero, suc, List, [], All, length, get_or, None, vec_capacity}
 use Rattle.locked_store.specs.Prelude.{World}
 use Rattle.callers.specs.declared.caller.Caller.{Caller}
+use Rattle.owner_space.specs.declared.names.Names.{Names}
 use Rattle.script_lang.specs.{declared.replies.Replies.Replies, declared.replies.ReplyForm.ReplyForm}
 use Rattle.session_host.specs.{declared.session.Session.Session, declared.worker.Worker.Worker, Workers.HaveForm, Workers.HaveRun, Workers.numbers_of}
 
@@ -23,10 +24,10 @@ module _ {D A C : Type 0} where
   HaveOwn j workers = (i : ℕ) (d : Worker D A C) → i < length workers → numbers_of (get_or workers i d).sessions.items ≡ dealt (length workers) i j
 
   -- all sessions are dealt, with replies of this form, and none has made a call
-  pub record AreDealt (w : World D A C) (form : ReplyForm) (workers : List (Worker D A C)) : Type 0 where
+  pub record AreDealt (w : World D A C) (names : Names) (form : ReplyForm) (workers : List (Worker D A C)) : Type 0 where
     pub own : HaveOwn 16 workers
     pub forms : All (λ t. HaveForm form t.sessions.items) workers
-    pub begun : All (HaveRun w []) workers
+    pub begun : All (HaveRun w names []) workers
 
   -- a session of a worker has this number, this caller and these replies
   pub record IsFrom (workers : List (Worker D A C)) (number : ℕ) (caller : Caller D A C) (replies : Replies) : Type 0 where

@@ -1,4 +1,5 @@
 pub mod Running
+pub mod Isolated
 pub mod Runs
 pub mod Replying
 pub mod Places

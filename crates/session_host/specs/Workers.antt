@@ -3,6 +3,7 @@ use Rattle.std.specs.Prelude.{ℕ, ◌≡◌, ◌≢◌, ◌≤◌, ◌<◌, tru
 use Rattle.turn_history.specs.Prelude.{entries_of, StartsWith}
 use Rattle.callers.specs.Ready.{IsReady}
 use Rattle.locked_store.specs.Prelude.{World}
+use Rattle.owner_space.specs.declared.names.Names.{Names}
 use Rattle.script_lang.specs.{declared.replies.ReplyForm.ReplyForm, declared.script.ScriptLine.ScriptLine}
 use Rattle.session_host.specs.{declared.session.Session.Session, declared.worker.Worker.Worker, Sessions.HasAnswered, Sessions.HasMade, Sessions.AreCalledIn}
 
@@ -51,12 +52,13 @@ module _ {D A C : Type 0} where
       pub replies : new.replies ≡ old.replies
       pub given : new.given ≡ old.given
 
+  module _ (w : World D A C) (names : Names) where
     -- The sessions of a thread have made their calls among these lines. Where the lines are all theirs, the caller whose call
     -- was the last has seen these calls in the order of the lines.
     pub record HaveRun (lines : List ScriptLine) (t : Worker D A C) : Type 0 where
       pub room : 16448 ≤ length t.buffer.items
       pub apart : AreApart t.sessions.items
-      pub answered : All (HasAnswered w lines) t.sessions.items
+      pub answered : All (HasAnswered w names lines) t.sessions.items
       pub last : IfSome t.last (λ last. last < length t.sessions.items)
       pub order : All (IsOurs t.sessions.items) lines → HasSeen lines t.sessions.items t.last
 
@@ -64,5 +66,5 @@ module _ {D A C : Type 0} where
     pub record HasWorked (lines : List ScriptLine) (old new : Worker D A C) : Type 0 where
       pub numbers : numbers_of new.sessions.items ≡ numbers_of old.sessions.items
       pub forms : (form : ReplyForm) → HaveForm form old.sessions.items → HaveForm form new.sessions.items
-      pub made : All (λ s. (n : ℕ) × HasMade w (take n lines) s.caller) new.sessions.items
+      pub made : All (λ s. (n : ℕ) × HasMade w names (take n lines) s.caller) new.sessions.items
       pub whole : new.whole ≡ true → HaveRun lines new

@@ -2,6 +2,7 @@
 ghost use Rattle.std.specs.Prelude.{◌≡◌, ◌≤◌, ◌<◌, ◌+◌, [], ℕ, All, IfOk, length, get_or, vec_capacity, vec_len};
 ghost use Rattle.locked_store.specs.Prelude.{world};
 ghost use Rattle.caller_service.specs.Staff.{AreStaff};
+ghost use Rattle.owner_space.specs.declared.names.Names.{Names};
 ghost use Rattle.session_host.specs.Dealing.{AreDealt, AreTaken, HaveOwn, IsFree};
 
 use crate::session::Session;
@@ -96,7 +97,7 @@ pub fn deal<D: Disk, A: Devices, C: Admission, G: Gate>(
     requires staff { AreStaff (world service.now.shared) callers.old.items }
     requires some { 0 < length workers.old }
     requires free { All IsFree workers.old }
-    ensures dealt { AreDealt (world service.now.shared) form workers.new }
+    ensures dealt { (names : Names) → AreDealt (world service.now.shared) names form workers.new }
     ensures count { length workers.new ≡ length workers.old }
     ensures callers { (callers.new.items ≡ []) × (16 ≤ vec_capacity callers.new) }
 {

@@ -12,6 +12,7 @@ use caller_service::Service;
 use callers::{Caller, Gate};
 use disk_face::Disk;
 use driver_dispatch::Devices;
+use owner_space::Names;
 use psa_status::Memory;
 use script_lang::{Replies, ReplyForm, ScriptLine};
 use std::alloc::Global;
@@ -23,14 +24,15 @@ fn run_workers<D: Disk + Send, A: Devices, C: Admission, G: Gate, R: Threads + W
     rt: &R,
     alloc: Global,
     service: &Service<D, A, C, G>,
+    names: &Names,
     lines: &[ScriptLine],
     workers: &mut [Worker<D, A, C>],
 )
     requires some { 0 < length workers.old }
-    requires begun { All (HaveRun (world service.now.shared) []) workers.old }
+    requires begun { All (HaveRun (world service.now.shared) names.now []) workers.old }
     requires few { length lines.now ≤ 20000 }
     requires budget { 2 * length lines.now ≤ service.now.worn }
-    ensures { (k : ℕ) (d : _) → k < length workers.old → HasWorked (world service.now.shared) lines.now (get_or workers.old k d) (get_or workers.new k d) }
+    ensures { (k : ℕ) (d : _) → k < length workers.old → HasWorked (world service.now.shared) names.now lines.now (get_or workers.old k d) (get_or workers.new k d) }
 {
     let threads = workers.len();
     thread::for_each_mut(
@@ -38,11 +40,11 @@ fn run_workers<D: Disk + Send, A: Devices, C: Admission, G: Gate, R: Threads + W
         workers,
         threads,
         &|_place, worker: &mut Worker<D, A, C>|
-            requires begun { HaveRun (world service.now.shared) [] worker.now }
+            requires begun { HaveRun (world service.now.shared) names.now [] worker.now }
             requires few { length lines.now ≤ 20000 }
             requires budget { 2 * length lines.now ≤ service.now.worn }
-            ensures { HasWorked (world service.entry.now.shared) lines.entry.now worker.entry.now worker.exit.now }
-        { worker.run(rt, alloc, service, lines) },
+            ensures { HasWorked (world service.entry.now.shared) names.entry.now lines.entry.now worker.entry.now worker.exit.now }
+        { worker.run(rt, alloc, service, names, lines) },
     );
 }
 
@@ -64,6 +66,7 @@ fn run_dealt<D: Disk + Send, A: Devices, C: Admission, G: Gate, R: Threads + Wai
     rt: &R,
     alloc: Global,
     service: &Service<D, A, C, G>,
+    names: &Names,
     lines: &[ScriptLine],
     form: ReplyForm,
     workers: &mut [Worker<D, A, C>],
@@ -77,25 +80,26 @@ fn run_dealt<D: Disk + Send, A: Devices, C: Admission, G: Gate, R: Threads + Wai
     requires sessions { All IsOfSession lines.now }
     requires few { length lines.now ≤ 20000 }
     requires budget { 2 * length lines.now ≤ service.now.worn }
-    ensures made { HaveMade (world service.now.shared) lines.now callers.new.items }
-    ensures answered { result ≡ true → HaveKept (world service.now.shared) lines.now callers.new.items form replies.new.items }
+    ensures made { HaveMade (world service.now.shared) names.now lines.now callers.new.items }
+    ensures answered { result ≡ true → HaveKept (world service.now.shared) names.now lines.now callers.new.items form replies.new.items }
     ensures one_worker { result ≡ true → length workers.old ≡ 1 → HaveSeen lines.now callers.new.items }
     ensures emptied { All (λ t. t.sessions.items ≡ []) workers.new }
 {
     deal(alloc, service, form, callers, workers);
-    run_workers(rt, alloc, service, lines, workers);
+    run_workers(rt, alloc, service, names, lines, workers);
     let whole = are_whole(workers);
     gather(workers, callers, replies);
     whole
 }
 
-/// Makes the calls of a script's lines, where session s is caller s: worker w runs those of the sessions that are w modulo
+/// Makes the calls of a script's lines, whose sessions name keys so, where session s is caller s: worker w runs those of the sessions that are w modulo
 /// their count, in the order of the script. Answers the replies by session, which are kept in this form. Fails where memory
 /// runs out: then the calls that each caller has made are the first of its session's. The callers come back.
 pub fn run_sessions<D: Disk + Send, A: Devices, C: Admission, G: Gate, R: Threads + Wait + Sync>(
     rt: &R,
     alloc: Global,
     service: &Service<D, A, C, G>,
+    names: &Names,
     lines: &[ScriptLine],
     workers: u8,
     form: ReplyForm,
@@ -107,8 +111,8 @@ pub fn run_sessions<D: Disk + Send, A: Devices, C: Admission, G: Gate, R: Thread
     requires sessions { All IsOfSession lines.now }
     requires few { length lines.now ≤ 20000 }
     requires budget { 2 * length lines.now ≤ service.now.worn }
-    ensures made { HaveMade (world service.now.shared) lines.now callers.new.items }
-    ensures answered { IfOk result (λ replies. HaveKept (world service.now.shared) lines.now callers.new.items form replies.items) }
+    ensures made { HaveMade (world service.now.shared) names.now lines.now callers.new.items }
+    ensures answered { IfOk result (λ replies. HaveKept (world service.now.shared) names.now lines.now callers.new.items form replies.items) }
     ensures one_worker { workers ≡ 1 → IfOk result (λ replies. HaveSeen lines.now callers.new.items) }
 {
     let Ok(mut replies) = Vec::with_capacity(alloc, SESSIONS) else {
@@ -119,6 +123,7 @@ pub fn run_sessions<D: Disk + Send, A: Devices, C: Admission, G: Gate, R: Thread
         rt,
         alloc,
         service,
+        names,
         lines,
         form,
         &mut workers,

@@ -15,6 +15,7 @@ use callers::Gate;
 use disk_face::Disk;
 use driver_dispatch::Devices;
 use locked_store::Held;
+use owner_space::Names;
 use psa_status::Memory;
 use script_lang::ScriptLine;
 use std::alloc::Global;
@@ -157,12 +158,13 @@ impl<D: Disk, A: Devices, C: Admission> Worker<D, A, C> {
         rt: &R,
         alloc: Global,
         service: &Service<D, A, C, G>,
+        names: &Names,
         line: &ScriptLine,
     ) -> Result<(), Memory>
-        requires { (lines : List script_line.ScriptLine) × HaveRun (world service.now.shared) lines self.old × (length lines < 20000) × (2 * length lines + 2 ≤ service.now.worn) }
-        ensures ran { (lines : List script_line.ScriptLine) → HaveRun (world service.now.shared) lines self.old →
-            MatchResult result (λ done. HaveRun (world service.now.shared) (lines ++ line.now ∷ []) self.new)
-            (λ full. All (λ s. HasMade (world service.now.shared) lines s.caller ⊎ HasMade (world service.now.shared) (lines ++ line.now ∷ []) s.caller) self.new.sessions.items) }
+        requires { (lines : List script_line.ScriptLine) × HaveRun (world service.now.shared) names.now lines self.old × (length lines < 20000) × (2 * length lines + 2 ≤ service.now.worn) }
+        ensures ran { (lines : List script_line.ScriptLine) → HaveRun (world service.now.shared) names.now lines self.old →
+            MatchResult result (λ done. HaveRun (world service.now.shared) names.now (lines ++ line.now ∷ []) self.new)
+            (λ full. All (λ s. HasMade (world service.now.shared) names.now lines s.caller ⊎ HasMade (world service.now.shared) names.now (lines ++ line.now ∷ []) s.caller) self.new.sessions.items) }
         ensures numbers { numbers_of self.new.sessions.items ≡ numbers_of self.old.sessions.items }
         ensures form { (form : reply_form.ReplyForm) → HaveForm form self.old.sessions.items → HaveForm form self.new.sessions.items }
         ensures whole { self.new.whole ≡ self.old.whole }
@@ -171,7 +173,7 @@ impl<D: Disk, A: Devices, C: Admission> Worker<D, A, C> {
             return Ok(());
         };
         self.meet(service, place);
-        let ran = self.sessions[place].run_line(rt, alloc, service, &mut self.buffer, line);
+        let ran = self.sessions[place].run_line(rt, alloc, service, names, &mut self.buffer, line);
         self.last = Some(place);
         ran
     }
@@ -182,16 +184,17 @@ impl<D: Disk, A: Devices, C: Admission> Worker<D, A, C> {
         rt: &R,
         alloc: Global,
         service: &Service<D, A, C, G>,
+        names: &Names,
         lines: &[ScriptLine],
     )
-        requires begun { HaveRun (world service.now.shared) [] self.old }
+        requires begun { HaveRun (world service.now.shared) names.now [] self.old }
         requires few { length lines.now ≤ 20000 }
         requires budget { 2 * length lines.now ≤ service.now.worn }
-        ensures { HasWorked (world service.now.shared) lines.now self.old self.new }
+        ensures { HasWorked (world service.now.shared) names.now lines.now self.old self.new }
     {
         self.whole = true;
         for line in lines {
-            let Ok(()) = self.run_line(rt, alloc, service, line) else {
+            let Ok(()) = self.run_line(rt, alloc, service, names, line) else {
                 self.whole = false;
                 return;
             };

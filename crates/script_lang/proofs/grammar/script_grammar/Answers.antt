@@ -3,8 +3,8 @@ use Rattle.script_lang.proofs.grammar.script_grammar.Goals as goal
 
 pub returns : goal.returns
 returns c = record {
-  calls = λ text. read_is (script_ends text);
-  calls_again = script_again;
+  said = λ text. read_is (script_ends text);
+  said_again = script_again;
   fault = λ text. failure_is (script_ends text);
   fault_again = fault_again;
 }

@@ -1,4 +1,4 @@
-use Rattle.std.proofs.Common.{ap, arith, length, subst, sym, ◌∙◌}
+use Rattle.std.proofs.Common.{Ok, ap, arith, length, subst, sym, ◌∙◌}
 use Rattle.script_lang.proofs.{Common.ScriptFails, Common.fault_at, Whole.lines_turn, Whole.lines_end, Whole.lines_fail}
 use Rattle.script_lang.proofs.reading.read_lines.Goals as goal
 
@@ -18,4 +18,4 @@ returns-in-Err-read_line-clause-value c few =
     (lines_fail c.in-Err-read_line.error c.loop-line.number _ c.loop-line.lines c.in-Some.line.now c.next.new.self c.in-Some.ensures c.in-Err-read_line.ensures.err))
 
 pub returns-clause-value : goal.returns-clause-value
-returns-clause-value c few = sym c.loop-line.invariant.read ∙ lines_end c.loop-line.number _ c.loop-line.lines c.in_default.ensures.0
+returns-clause-value c few = sym c.loop-line.invariant.read ∙ (lines_end c.loop-line.number _ c.loop-line.lines c.in_default.ensures.0 ∙ ap Ok (sym c.of.ensures))

@@ -4,7 +4,7 @@ use Rattle.script_lang.proofs.reading.read_lines.Given as goal
 
 abbrev pub invariant-loop-line : goal.invariant-loop-line
 invariant-loop-line l = record {
-  read : lines_at l.number (read_of l.reading.lines.items l.reading.sessions.items) l.lines ≡ lines_at 1 nothing_read (text_lines l.fn.text);
+  read : lines_at l.number (read_of l.reading.lines.items l.reading.sessions.items l.reading.owners) l.lines ≡ lines_at 1 nothing_read (text_lines l.fn.text);
   counted : AreCounted l.reading.lines.items l.reading.sessions.items;
   few : length l.reading.lines.items + 1 ≤ l.number;
   sessions : All IsOfSession l.reading.lines.items;

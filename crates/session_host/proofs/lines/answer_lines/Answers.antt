@@ -1,4 +1,4 @@
-use Rattle.session_host.proofs.{Common.IsOpening, Common.all_replies, Common.ap, Common.arith, Common.world, Ran.answered, Ran.broken}
+use Rattle.session_host.proofs.{Common.IsOpening, Common.all_replies, Common.ap, Common.arith, Common.limits_by, Common.world, Common.◌∙◌, Ran.answered, Ran.broken}
 use Rattle.session_host.proofs.lines.answer_lines.Goals as goal
 
 pub close-disk-requires-clause-ready : goal.close-disk-requires-clause-ready
@@ -8,12 +8,12 @@ close-disk-requires-clause-ready g c κs within = λ k d lt.
 pub returns-in-Ok-ran : goal.returns-in-Ok-ran
 returns-in-Ok-ran g c =
     let o = c.in-Ok.ensures in let w = world c.in-Ok.opened.0.shared in
-    let opening : IsOpening w c.args.disk c.args.devices (g.C.Admission.labels c.args.rules) c.args.seed.now = record { starts = o.starts; sound = o.sound; keys = o.keys; found = o.opened.file; later = o.later; devices_are = o.devices; seed_is = o.seed; rules_are = ap g.C.Admission.labels o.rules; limits_are = o.limits } in
+    let opening : IsOpening w c.args.disk c.args.devices (g.C.Admission.labels c.args.rules) c.args.seed.now (limits_by c.args.names.now) = record { starts = o.starts; sound = o.sound; keys = o.keys; found = o.opened.file; later = o.later; devices_are = o.devices; seed_is = o.seed; rules_are = ap g.C.Admission.labels o.rules; limits_are = o.limits ∙ c.limits_by.ensures } in
     let k = c.in-Ok-ran.ensures.answered in record {
       replies = all_replies k.told;
       answered =
-          answered g.D.Disk g.A.Devices g.C.Admission w.lock w.opened c.args.disk c.args.devices (g.C.Admission.labels c.args.rules) c.args.seed.now c.close-disk.result.disk c.close-disk.result.devices
-          opening c.args.lines.now c.requires.sessions c.run_sessions-ran.new.callers.items c.run_sessions-ran.ensures.made c.close-disk.ensures.closed k.told c.args.workers k.answered c.in-Ok-ran.ensures.one_worker;
+          answered g.D.Disk g.A.Devices g.C.Admission w.lock w.opened c.args.disk c.args.devices (g.C.Admission.labels c.args.rules) c.args.seed.now c.args.names.now c.close-disk.result.disk c.close-disk.result.devices
+          opening c.args.lines.now c.requires.sessions c.run_sessions-ran.new.callers.items c.run_sessions-ran.ensures.made c.close-disk.ensures.closed k.told c.args.workers c.requires.owners k.answered c.in-Ok-ran.ensures.one_worker;
       all = k.all;
       sixteen = k.sixteen;
     }
@@ -21,6 +21,6 @@ returns-in-Ok-ran g c =
 pub returns : goal.returns
 returns g c =
     let o = c.in-Ok.ensures in let w = world c.in-Ok.opened.0.shared in
-    let opening : IsOpening w c.args.disk c.args.devices (g.C.Admission.labels c.args.rules) c.args.seed.now = record { starts = o.starts; sound = o.sound; keys = o.keys; found = o.opened.file; later = o.later; devices_are = o.devices; seed_is = o.seed; rules_are = ap g.C.Admission.labels o.rules; limits_are = o.limits } in
-    broken g.D.Disk g.A.Devices g.C.Admission w.lock w.opened c.args.disk c.args.devices (g.C.Admission.labels c.args.rules) c.args.seed.now c.close-disk.result.disk c.close-disk.result.devices
+    let opening : IsOpening w c.args.disk c.args.devices (g.C.Admission.labels c.args.rules) c.args.seed.now (limits_by c.args.names.now) = record { starts = o.starts; sound = o.sound; keys = o.keys; found = o.opened.file; later = o.later; devices_are = o.devices; seed_is = o.seed; rules_are = ap g.C.Admission.labels o.rules; limits_are = o.limits ∙ c.limits_by.ensures } in
+    broken g.D.Disk g.A.Devices g.C.Admission w.lock w.opened c.args.disk c.args.devices (g.C.Admission.labels c.args.rules) c.args.seed.now c.args.names.now c.close-disk.result.disk c.close-disk.result.devices
     opening c.args.lines.now c.requires.sessions c.run_sessions-ran.new.callers.items c.run_sessions-ran.ensures.made c.close-disk.ensures.closed

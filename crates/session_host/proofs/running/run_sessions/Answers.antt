@@ -6,10 +6,10 @@ kept : {X : Type 0} (xs ys : List X) (n : ℕ) → n ≡ length xs → take n (x
 kept xs ys n is = ap (λ k. take k (xs ++ ys)) is ∙ take-append_seam xs ys
 
 pub returns-in_default-clause-made : goal.returns-in_default-clause-made
-returns-in_default-clause-made g c = have_made_none (world c.args.service.now.shared) c.args.lines.now c.args.callers.now.items c.requires.staff
+returns-in_default-clause-made g c = have_made_none (world c.args.service.now.shared) c.args.names.now c.args.lines.now c.args.callers.now.items c.requires.staff
 
 pub returns-in_err-workers-clause-made : goal.returns-in_err-workers-clause-made
-returns-in_err-workers-clause-made g c = have_made_none (world c.args.service.now.shared) c.args.lines.now c.args.callers.now.items c.requires.staff
+returns-in_err-workers-clause-made g c = have_made_none (world c.args.service.now.shared) c.args.names.now c.args.lines.now c.args.callers.now.items c.requires.staff
 
 pub free-requires-after_bounds : goal.free-requires-after_bounds
 free-requires-after_bounds g c κs within =

@@ -19,4 +19,4 @@ pub returns : goal.returns
 returns g c k d within =
     let w = world c.args.service.now.shared in
     let e = (c.for_each_mut.ensures k d within).1 in
-    subst (λ y. HasWorked w c.args.lines.now (get_or c.args.workers.now k d) y) e.left (subst (λ x. HasWorked w c.args.lines.now x e.after_call.now) e.argument_is e.call)
+    subst (λ y. HasWorked w c.args.names.now c.args.lines.now (get_or c.args.workers.now k d) y) e.left (subst (λ x. HasWorked w c.args.names.now c.args.lines.now x e.after_call.now) e.argument_is e.call)

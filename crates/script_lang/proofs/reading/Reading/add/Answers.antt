@@ -12,12 +12,12 @@ overflow_add-state c =
 
 pub returns-clause-ok : goal.returns-clause-ok
 returns-clause-ok c =
-    ap (λ lines. read_of lines (slice_set c.args.self.now.sessions.items c.args.session (counted_on c.give.new.self))) c.in_ok-push.ensures.items
-    ∙ more_read c.args.self.now.lines.items c.args.self.now.sessions.items c.args.session c.index_mut-state.result.now c.give.new.self c.args.name c.args.call
-    (is_more c.args.self.now.lines.items c.args.self.now.sessions.items c.args.session c.index_mut-state.result.now c.give.new.self c.args.name c.requires.counted c.requires.range.1 c.index_mut-state.ensures.value c.give.ensures.calls c.in_ok-give.ensures.ok)
+    ap (λ lines. read_of lines (slice_set c.args.self.now.sessions.items c.args.session (counted_on c.give.new.self)) c.args.self.now.owners) c.in_ok-push.ensures.items
+    ∙ more_read c.args.self.now.lines.items c.args.self.now.sessions.items c.args.self.now.owners c.args.session c.index_mut-state.result.now c.give.new.self c.args.name c.args.call
+    (is_more c.args.self.now.lines.items c.args.self.now.sessions.items c.args.session c.index_mut-state.result.now c.give.new.self c.args.name c.requires.counted c.requires.range.1 c.index_mut-state.ensures.value c.give.ensures.calls c.give.ensures.stated c.in_ok-give.ensures.ok)
 
 pub returns-clause-counted : goal.returns-clause-counted
 returns-clause-counted c =
     subst (λ lines. AreCounted lines (slice_set c.args.self.now.sessions.items c.args.session (counted_on c.give.new.self))) (sym c.in_ok-push.ensures.items)
     (more_counted c.args.self.now.lines.items c.args.self.now.sessions.items c.args.session c.index_mut-state.result.now c.give.new.self c.args.name c.args.call
-    (is_more c.args.self.now.lines.items c.args.self.now.sessions.items c.args.session c.index_mut-state.result.now c.give.new.self c.args.name c.requires.counted c.requires.range.1 c.index_mut-state.ensures.value c.give.ensures.calls c.in_ok-give.ensures.ok))
+    (is_more c.args.self.now.lines.items c.args.self.now.sessions.items c.args.session c.index_mut-state.result.now c.give.new.self c.args.name c.requires.counted c.requires.range.1 c.index_mut-state.ensures.value c.give.ensures.calls c.give.ensures.stated c.in_ok-give.ensures.ok))
