@@ -4,6 +4,7 @@ pub use Rattle.key_attributes.specs.declared.Attributes.{Attributes}
 pub use Rattle.line_generator.specs.{Generator.call, Generator.rising_bytes, Generator.fields, Generator.generator_line, Generator.generator_lines, Generator.import_fields, Summary.count_line}
 unfoldable pub use Rattle.line_generator.specs.Summary.{summary_of}
 pub use Rattle.psa_status.specs.{Rows.Rows, Rows.first_row, Rows.unless, declared.Status.Status, declared.Status.TheVariants.AlreadyExists, declared.Status.TheVariants.InsufficientStorage, declared.Status.TheVariants.InvalidHandle, declared.Status.TheVariants.KeyLimit, declared.Status.TheVariants.NotSupported, declared.Status.TheVariants.Success}
+pub use Rattle.owner_space.specs.declared.names.Names.TheVariants.{Unowned}
 pub use Rattle.script_lang.specs.Prelude.{AreCalls, IsOfSession, ReplyLine, Turn, attributes_at, bytes_text, id_given, is_success, lines_of, numbered, replies_to, request_of, turns_from, turns_of}
 unfoldable pub use Rattle.script_lang.specs.Prelude.{reply_text, unranked_text}
 pub use Rattle.sha2.specs.Hashers.{Holds256}

@@ -1,9 +1,10 @@
 -- The generator's lines in any order: each session is answered as if it were alone.
 use Rattle.std.proofs.Common.{All, Bool, List, [], ap, codes, cond, count_by, eq-eqb, eqb-true, false, filter, flat_map, get_or, inl, map, not, refl, subst, suc, sym, true, zero, ℕ, ◌%◌, ◌*◌, ◌++◌, ◌+◌, ◌-◌, ◌/◌, ◌==◌, ◌∙◌, ◌∷◌, ◌≡◌}
-use Rattle.line_generator.proofs.Common.{All-head, All-tail, AreCalls, attributes_at, call, count_line, encode_lower, Entry, eqb-false, fields, generator_line, generator_lines, id_given, import_fields, is_success, length-map, lines_of, map-append, numbered, outcome_of, output_bytes, Plain, range_with_len, replies_to, Reply, ReplyLine, Request, request_of, rising_bytes, serve, Served, Service, sha256, sum_by-cons, summary_of, Turn, turns_from, turns_of, unranked_text}
+use Rattle.line_generator.proofs.Common.{All-head, All-tail, AreCalls, attributes_at, call, count_line, encode_lower, Entry, eqb-false, fields, generator_line, generator_lines, Unowned, id_given, import_fields, is_success, length-map, lines_of, map-append, numbered, outcome_of, output_bytes, Plain, range_with_len, replies_to, Reply, ReplyLine, Request, request_of, rising_bytes, serve, Served, Service, sha256, sum_by-cons, summary_of, Turn, turns_from, turns_of, unranked_text}
 use Rattle.script_lang.specs.{declared.commands.ScriptCommand.TheVariants.Key, declared.commands.ScriptCommand.TheVariants.SinglePart, declared.store_commands.KeyCommand.TheVariants.Import, declared.store_commands.KeyCommand.TheVariants.Export, declared.store_commands.KeyCommand.TheVariants.Destroy, declared.script.KeyWord.TheVariants.Given, declared.script.KeyWord.TheVariants.Line}
 use Rattle.script_lang.specs.{declared.store_commands.SinglePartCommand.TheVariants.CipherEncrypt, declared.store_commands.SinglePartCommand.TheVariants.MacCompute, declared.script.ScriptCall.ScriptCall, declared.script.ScriptLine.ScriptLine}
-use Rattle.line_generator.specs.Orders.{IsOrder, reply_lines_of, without_rank, RepliesInAnyOrder, SummaryInAnyOrder}
+use Rattle.script_lang.specs.Prelude.{without_rank}
+use Rattle.line_generator.specs.Orders.{IsOrder, reply_lines_of, RepliesInAnyOrder, SummaryInAnyOrder}
 use Rattle.line_generator.proofs.{Alike.Alike, Alike.NoZero, Alike.OwnId, Steps.KeyCall, Steps.Imports, Steps.Exports, Steps.Signs, Steps.Encrypts, Steps.Destroys, Steps.asked, Steps.IsOwn, Steps.SameStep, Steps.own_step, Steps.other_step, Steps.zero_stays, Steps.given_own}
 
 abbrev pub Each : {X : Type 0} → (X → Type 0) → List X → Type 0
@@ -86,7 +87,7 @@ record Known (session : ℕ) (turns : List Turn) : Type 0 where
   lines : List ScriptLine
   own : Each (OwnId session) ids
   keys : Each KeyLine lines
-  calls : AreCalls ids lines turns
+  calls : AreCalls Unowned ids lines turns
 
 -- what the head of a session's calls is
 record Head (a : Service) (e : Entry) (session : ℕ) (rest : List Turn) : Type 0 where
@@ -99,7 +100,7 @@ turn : (rank : ℕ) (a : Service) (e : Entry) → Turn
 turn rank a e = record { entry = e; rank = rank; reply = (outcome_of a e).reply }
 
 head_of : (rank : ℕ) (a : Service) (e : Entry) (session : ℕ) (rest : List Turn) (ids : List ℕ) (lines : List ScriptLine) → e.caller ≡ session → e.mark ≡ Plain → Each (OwnId session) ids → Each KeyLine lines →
-    AreCalls ids lines (turn rank a e ∷ rest) → Head a e session rest
+    AreCalls Unowned ids lines (turn rank a e ∷ rest) → Head a e session rest
 unfolding turn
 head_of rank a e session rest ids [] p m own keys calls = absurd calls
 head_of rank a e session rest ids (line ∷ lines) p m own keys calls =
@@ -149,8 +150,8 @@ AllKnown turns = (session : ℕ) → Known session (turns_of session turns)
 abbrev Follows : ℕ → List Entry → Type 0
 Follows session es =
     (rank : ℕ) (a b : Service) (ids : List ℕ) (lines : List ScriptLine) → All (λ e. e.mark ≡ Plain) es → NoZero a → NoZero b → Alike session a b →
-    Each (OwnId session) ids → Each KeyLine lines → AreCalls ids lines (turns_of session (turns_from rank a es)) → AllKnown (turns_from rank a es) →
-    replies_in (turns_of session (turns_from rank a es)) ≡ alone session b ids lines
+    Each (OwnId session) ids → Each KeyLine lines → AreCalls Unowned ids lines (turns_of session (turns_from Unowned rank a es)) → AllKnown (turns_from Unowned rank a es) →
+    replies_in (turns_of session (turns_from Unowned rank a es)) ≡ alone session b ids lines
 
 all_next : (rank : ℕ) (a : Service) (e : Entry) (rest : List Turn) → e.mark ≡ Plain → AllKnown (turn rank a e ∷ rest) → AllKnown rest
 unfolding turn
@@ -168,9 +169,9 @@ passed session rank a b e rest f m za h known =
 
 step : (session : ℕ) (e : Entry) (es : List Entry) → Follows session es → (t : Bool) → (rank : ℕ) (a b : Service) (ids : List ℕ) (lines : List ScriptLine) → (e.caller == session) ≡ t →
     e.mark ≡ Plain → All (λ x. x.mark ≡ Plain) es → NoZero a → NoZero b → Alike session a b → Each (OwnId session) ids → Each KeyLine lines →
-    AreCalls ids lines (cond t (turn rank a e ∷ turns_of session (turns_from (rank + 1) (outcome_of a e).service es)) (turns_of session (turns_from (rank + 1) (outcome_of a e).service es))) →
-    AllKnown (turn rank a e ∷ turns_from (rank + 1) (outcome_of a e).service es) →
-    replies_in (cond t (turn rank a e ∷ turns_of session (turns_from (rank + 1) (outcome_of a e).service es)) (turns_of session (turns_from (rank + 1) (outcome_of a e).service es))) ≡ alone session b ids lines
+    AreCalls Unowned ids lines (cond t (turn rank a e ∷ turns_of session (turns_from Unowned (rank + 1) (outcome_of a e).service es)) (turns_of session (turns_from Unowned (rank + 1) (outcome_of a e).service es))) →
+    AllKnown (turn rank a e ∷ turns_from Unowned (rank + 1) (outcome_of a e).service es) →
+    replies_in (cond t (turn rank a e ∷ turns_of session (turns_from Unowned (rank + 1) (outcome_of a e).service es)) (turns_of session (turns_from Unowned (rank + 1) (outcome_of a e).service es))) ≡ alone session b ids lines
 unfolding alone turn
 step session e es later true rank a b ids [] t m ms za zb h own keys calls known = absurd calls
 step session e es later true rank a b ids (line ∷ lines) t m ms za zb h own keys calls known =
@@ -184,11 +185,11 @@ step session e es later true rank a b ids (line ∷ lines) t m ms za zb h own ke
     subst (λ (s : Served). OwnId session (id_given s.reply.output)) (sym (is ∙ ap (λ r. serve a session r Plain) asks.is)) (given_own session a asks.key_call asks.own) in
     let zero : NoZero (outcome_of a e).service = subst (λ (s : Served). NoZero s.service) (sym is) (zero_after a session request asks za) in
     let after = later (rank + 1) (outcome_of a e).service (serve b session request Plain).service next lines ms zero (zero_after b session request asks zb) both.alike
-    (each_push (OwnId session) ids _ own owned) keys.1 calls.2 (all_next rank a e (turns_from (rank + 1) (outcome_of a e).service es) m known) in
+    (each_push (OwnId session) ids _ own owned) keys.1 calls.2 (all_next rank a e (turns_from Unowned (rank + 1) (outcome_of a e).service es) m known) in
     ap (λ rs. (outcome_of a e).reply ∷ rs) after
     ∙ (λ i. both.reply i ∷ alone session (serve b session request Plain).service (ids ++ id_given (both.reply i).output ∷ []) lines)
 step session e es later false rank a b ids lines t m ms za zb h own keys calls known =
-    let rest = turns_from (rank + 1) (outcome_of a e).service es in
+    let rest = turns_from Unowned (rank + 1) (outcome_of a e).service es in
     let left = passed session rank a b e rest t m za h known in
     later (rank + 1) (outcome_of a e).service b ids lines ms left.0 zb left.1 own keys calls (all_next rank a e rest m known)
 
@@ -204,7 +205,7 @@ itself : (session : ℕ) (a : Service) → Alike session a a
 itself session a = record { own = refl; owns = refl; stores = record { made = refl; mades = refl; settings = refl; keys = λ id t. refl; live = refl } }
 
 as_alone : (start : Service) (count : ℕ) (history : List Entry) (session : ℕ) → NoZero start → IsOrder start count history →
-    replies_in (turns_of session (turns_from 0 start history)) ≡ alone session start [] (lines_of session (generator_lines count))
+    replies_in (turns_of session (turns_from Unowned 0 start history)) ≡ alone session start [] (lines_of session (generator_lines count))
 as_alone start count history session z order =
     follows session history 0 start start [] (lines_of session (generator_lines count)) order.plain z z (itself session start) tt (key_lines session count) (order.own session)
     (λ other. record { ids = []; lines = lines_of other (generator_lines count); own = tt; keys = key_lines other count; calls = order.own other })
@@ -237,7 +238,7 @@ sessions_to (suc n) ts us h =
 
 pub replies_alike : RepliesInAnyOrder
 replies_alike start count one other z first second =
-    sessions_to 16 (turns_from 0 start one) (turns_from 0 start other) (λ session. as_alone start count one session z first ∙ sym (as_alone start count other session z second))
+    sessions_to 16 (turns_from Unowned 0 start one) (turns_from Unowned 0 start other) (λ session. as_alone start count one session z first ∙ sym (as_alone start count other session z second))
 
 -- WHAT IS SUMMED UP
 

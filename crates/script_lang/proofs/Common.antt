@@ -5,7 +5,7 @@ pub use Rattle.script_lang.specs.{Commands.IsRow, Fields.BytesForm, Fields.Field
 unfoldable pub use Rattle.script_lang.specs.Commands.{row_named, rows}
 unfoldable pub use Rattle.script_lang.specs.Fields.{field_value, read_field, read_fields}
 pub use Rattle.script_lang.specs.{Grammar.AreFields, Grammar.AreFixed, Grammar.AreSteps, Grammar.IsField, Grammar.IsFixed, Grammar.IsForm, Grammar.IsKeyWord, Grammar.IsLetter, Grammar.IsLine, Grammar.IsName, Grammar.IsNameByte, Grammar.IsNumber, Grammar.IsOneTo, Grammar.IsOwner, Grammar.IsOwnerLine, Grammar.IsScript, Grammar.IsStep, Replies.ReplyLine, Replies.bytes_text, Replies.is_success, Replies.next_line, Replies.text_in}
-pub use Rattle.script_lang.specs.{Lines.IsOfSession, Lines.Places, Lines.Read, Lines.ScriptFails, Lines.call_of, Lines.fault_at, Lines.given_place, Lines.or_bad_line, Lines.handle_at, Lines.is_letter, Lines.is_name_byte, Lines.lines_of, Lines.no_words, Lines.nothing_read, Lines.Said, Lines.has_begun, Lines.said_by, Lines.with_call, Lines.with_owner, Sessions.AreCounted, Sessions.IsNew, Sessions.places_in, Sessions.read_of, Sessions.stated_in, Steps.Fails, Steps.demand}
+pub use Rattle.script_lang.specs.{Lines.AreOwners, Lines.IsOfSession, Lines.Places, Lines.Read, Lines.ScriptFails, Lines.call_of, Lines.fault_at, Lines.given_place, Lines.or_bad_line, Lines.handle_at, Lines.is_letter, Lines.is_name_byte, Lines.lines_of, Lines.no_words, Lines.nothing_read, Lines.Said, Lines.has_begun, Lines.said_by, Lines.with_call, Lines.with_owner, Sessions.AreCounted, Sessions.IsNew, Sessions.places_in, Sessions.read_of, Sessions.stated_in, Steps.Fails, Steps.demand}
 unfoldable pub use Rattle.script_lang.specs.Lines.{call_line, is_name, key_at, lines_at, owner_line, owner_of, parts_at, read_fixed, script_of, session_of, with_word, words_at}
 unfoldable pub use Rattle.script_lang.specs.Numbers.{number_from}
 pub use Rattle.script_lang.specs.{Outside.AreBadAfter, Outside.AreBadFields, Outside.AreBadFixed, Outside.AreBadWords, Outside.IsBadCommand, Outside.IsBadField, Outside.IsBadFixed, Outside.IsBadOwner, Outside.IsBadValue, Outside.IsFault, Pieces.begins_with, Pieces.cut_of, Pieces.ended, Pieces.line_words, Pieces.onto_first, Pieces.pieces, Pieces.text_lines, Pieces.without_return, Pieces.words}

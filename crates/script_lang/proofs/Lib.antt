@@ -1,6 +1,7 @@
 mod Common
 mod Ends
 mod Again
+mod Owned
 mod Cuts
 mod Near
 mod Digits

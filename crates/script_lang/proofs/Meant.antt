@@ -188,11 +188,11 @@ words_end read (w ∷ name ∷ ws) = step _ (asked (session_of w) BadSession (se
 
 -- scripts
 
-abbrev AreRead : Read → List (List ℕ) → Said → Type 0
+abbrev pub AreRead : Read → List (List ℕ) → Said → Type 0
 AreRead read texts said = (last : Read) × AreSteps read texts last × (said_by last ≡ said)
 
 -- the first of these lines that is outside
-record AreBadLines (number : ℕ) (read : Read) (texts : List (List ℕ)) (fault : ScriptFault) : Type 0 where
+pub record AreBadLines (number : ℕ) (read : Read) (texts : List (List ℕ)) (fault : ScriptFault) : Type 0 where
   before : List (List ℕ)
   line : List ℕ
   after : List (List ℕ)
@@ -203,7 +203,7 @@ record AreBadLines (number : ℕ) (read : Read) (texts : List (List ℕ)) (fault
   bad : AreBadWords last (line_words line) reason
   is_fault : fault ≡ BadLine (number + length before) reason
 
-lines_end : (n : ℕ) (read : Read) (texts : List (List ℕ)) → Ends (AreRead read texts) (AreBadLines n read texts) (lines_at n read texts)
+pub lines_end : (n : ℕ) (read : Read) (texts : List (List ℕ)) → Ends (AreRead read texts) (AreBadLines n read texts) (lines_at n read texts)
 unfolding lines_at
 lines_end n read [] = reads (read, refl, refl)
 lines_end n read (text ∷ texts) = go (words_at read (line_words text)) (words_end read (line_words text)) (λ next. lines_end (n + 1) next texts)

@@ -1,6 +1,7 @@
 -- The lines of a script, read from left to right.
 use Rattle.script_lang.specs.{declared.commands.Kind.Kind, declared.script.KeyWord.KeyWord, Numbers.number, Numbers.from_least, Pieces.begins_with, Pieces.line_words, Pieces.text_lines, Shapes.Shape, Commands.row_named, Fields.Fields, Fields.read_fields, Fields.has_required, Steps.◌>>=◌, Steps.demand, declared.faults.LineError.LineError, declared.faults.Reason.Reason, declared.fixed.Fixed.Fixed}
-use Rattle.std.specs.Prelude.{◌≡◌, ◌≤◌, ℕ, ◌+◌, ◌-◌, ◌^◌, Bool, false, ◌||◌, ◌&&◌, nat_lt, nat_le, ◌==◌, List, [], ◌∷◌, ◌++◌, length, drop, slice_get, filter, if◌then◌else◌, Option, Some, None, option_map, ok_or, Result, Ok, Err, codes, not, replicate, slice_set}
+use Rattle.std.specs.Prelude.{◌≡◌, ◌≤◌, ◌<◌, All, IfSome, ℕ, ◌+◌, ◌-◌, ◌^◌, Bool, false, ◌||◌, ◌&&◌, nat_lt, nat_le, ◌==◌, List, [], ◌∷◌, ◌++◌, length, drop, slice_get, filter, if◌then◌else◌, Option, Some, None, option_map, ok_or, Result, Ok, Err, codes, not, replicate, slice_set}
+use Rattle.owner_space.specs.Owners.{owner_count}
 use Rattle.std.specs.{List.list_all, Option.unwrap_or, Str.bytes_eq}
 use Rattle.script_lang.specs.declared.faults.LineError.TheVariants as errors
 use Rattle.script_lang.specs.declared.faults.Reason.TheVariants.{BadSession, UnknownCommand, MissingWord, BadHandle, BadName, BadKey, UnknownName, UnknownField, MissingField, LateOwner, BadOwner}
@@ -76,6 +77,10 @@ nothing_read = record { lines = []; places = λ session name. None; owners = Non
 pub record Said : Type 0 where
   pub lines : List ScriptLine
   pub owners : Option (List ℕ)
+
+-- owners are numbered from 0 to 15
+abbrev pub AreOwners : Option (List ℕ) → Type 0
+AreOwners owners = IfSome owners (All (λ owner. owner < owner_count))
 
 abbrev pub said_by : Read → Said
 said_by read = record { lines = read.lines; owners = read.owners }

@@ -1,6 +1,6 @@
 // A script, read line by line.
 ghost use Rattle.std.specs.Prelude.{◌≡◌, ◌≤◌, ◌<◌, ◌+◌, ◌^◌, [], length, nat_lt, All, OnOk, IfOk, IfErr, IfSome, IsErr, Ok, ℕ, List};
-ghost use Rattle.script_lang.specs.{declared.faults.LineError.TheVariants.Memory, Steps.Fails, Steps.Gives, Pieces.line_words, Pieces.text_lines, Lines.call_line, Lines.has_begun, Lines.owner_line, Lines.owner_of, Lines.session_of, Lines.with_call, Lines.with_owner, Lines.parts_at, Lines.words_at, Lines.lines_at, Lines.nothing_read, Lines.fault_at, Lines.script_of, Lines.ScriptGives, Lines.IsOfSession, Shapes.shape};
+ghost use Rattle.script_lang.specs.{declared.faults.LineError.TheVariants.Memory, Steps.Fails, Steps.Gives, Pieces.line_words, Pieces.text_lines, Lines.call_line, Lines.has_begun, Lines.owner_line, Lines.owner_of, Lines.session_of, Lines.with_call, Lines.with_owner, Lines.parts_at, Lines.words_at, Lines.lines_at, Lines.nothing_read, Lines.fault_at, Lines.script_of, Lines.ScriptGives, Lines.AreOwners, Lines.IsOfSession, Shapes.shape};
 ghost use Rattle.script_lang.specs.Sessions.{places_of, read_of, AreCounted, IsNew};
 
 use crate::commands::{Row, row_named};
@@ -308,6 +308,7 @@ pub fn read_script(alloc: Global, text: &[u8]) -> Result<Script, ScriptFault>
     ensures value { ScriptGives (λ script. script) result (script_of text.now) }
     ensures few { IfOk result (λ script. length script.lines ≤ 20000) }
     ensures sessions { IfOk result (λ script. All IsOfSession script.lines) }
+    ensures owners { IfOk result (λ script. AreOwners script.owners) }
 {
     if text.len() > TEXT_LIMIT {
         return Err(ScriptFault::TooLong);

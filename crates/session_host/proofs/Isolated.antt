@@ -8,7 +8,8 @@ use Rattle.store_model.specs.declared.limits.Limits.TheVariants.{PerRange}
 use Rattle.owner_space.specs.Owners.{Owners, owner_count, owners_in, request_inside}
 use Rattle.owner_space.specs.Isolation.{Answered, IsOwnersCall, TellsNoFault, answered_from, answered_to, calls_of, only}
 use Rattle.owner_space.proofs.Isolation.{owners_isolated}
-use Rattle.session_host.specs.Isolated.{AreIsolated, TellsNoFailure, lines_alone, unranked, unranked_lines}
+use Rattle.session_host.specs.Isolated.{AreIsolated, TellsNoFailure, lines_alone, unranked_lines}
+use Rattle.script_lang.specs.Prelude.{without_rank}
 use Rattle.session_host.proofs.Replayed.{replayed}
 
 -- WHAT HOLDS OF EACH SESSION'S TURNS HOLDS OF ALL
@@ -125,7 +126,7 @@ module _ (names : Names) where
   to_session session = filter (λ a. a.entry.caller == session)
 
   unfolding lines_from
-  printed_by : (number : ℕ) (ts : List Turn) → map unranked (numbered number ts) ≡ lines_from number (map answer_of ts)
+  printed_by : (number : ℕ) (ts : List Turn) → map without_rank (numbered number ts) ≡ lines_from number (map answer_of ts)
   printed_by number [] = refl
   printed_by number (t ∷ ts) = ap (λ l. line_of number (answer_of t) ∷ l) (printed_by (number + 1) ts)
 
@@ -256,7 +257,7 @@ module _ {D A C : Type 0} (w : World D A C) (owners : List ℕ) (lines : List Sc
       let apart = owners_isolated is.settings is.found (owners_in owners) owner history (is.limits_are ∙ limits) sound_start calls none in
       let alone : answered_to (owners_in owners) owner (answered_from start history) ≡ answered_from (service_of (only owner start.store)) (calls_of (owners_in owners) owner history) =
       ap (λ s. answered_to (owners_in owners) owner (answered_from s history)) (sym same_start) ∙ (apart ∙ ap (λ (s : Service). answered_from (service_of (only owner s.store)) (calls_of (owners_in owners) owner history)) same_start) in
-      ap (map unranked) (of_replay session).1
+      ap (map without_rank) (of_replay session).1
       ∙ (printed_answers names session start history
       ∙ (ap (λ l. lines_from names 1 (map (told_answer names) l)) (sym (own_session (owners_in owners) owner session refl (answered_from start history)))
       ∙ (ap (λ l. lines_from names 1 (map (told_answer names) (to_session names session l))) alone

@@ -3,15 +3,12 @@ use Rattle.std.specs.Prelude.{ℕ, ◌≡◌, true, List, All, None, is_some, ma
 use Rattle.owner_space.specs.{declared.names.Names.Names, declared.names.Names.TheVariants.Owned, Owners.owners_in, Isolation.calls_of, Isolation.only}
 use Rattle.store_model.specs.Prelude.{Entry, Service, service_of}
 use Rattle.locked_store.specs.Prelude.{IsStartOf, ToldBy, World}
-use Rattle.script_lang.specs.Prelude.{ReplyLine, Turn, numbered, turns_from, turns_of}
+use Rattle.script_lang.specs.Prelude.{ReplyLine, Turn, numbered, turns_from, turns_of, without_rank}
 use Rattle.session_host.specs.Places.{failure_of}
-
-abbrev pub unranked : ReplyLine → ReplyLine
-unranked line = record line { rank = 0 }
 
 -- the reply lines of a session's turns, without their ranks
 abbrev pub unranked_lines : List Turn → List ReplyLine
-unranked_lines turns = map unranked (numbered 1 turns)
+unranked_lines turns = map without_rank (numbered 1 turns)
 
 -- a line that tells of no failed device
 abbrev pub TellsNoFailure : ReplyLine → Type 0
