@@ -64,6 +64,14 @@ class Service:
                 return self.set_up(session, command, fields, family)
         return self.step(session, command, fields)
 
+    def has_key(self, session, identifier):
+        """Whether there is a key by which the session names this identifier."""
+        return identifier in self.keys
+
+    def has_room(self, identifier):
+        """Whether the file has room for a key of this identifier."""
+        return None in self.cells
+
     def draw(self, session, count):
         place = self.drawn.get(session, 0)
         self.drawn[session] = place + (count + 3) // 4
@@ -84,7 +92,7 @@ class Service:
         key = narrowed(Key(lifetime, identifier, session, key_type, 8 * count, usage, algorithms, b""), self.rules)
         if lifetime == PERSISTENT:
             require(identifier not in self.keys, "ALREADY_EXISTS")
-            require(None in self.cells, "INSUFFICIENT_STORAGE")
+            require(self.has_room(identifier), "INSUFFICIENT_STORAGE")
         else:
             live = [other for other in self.keys.values() if other.creator == session and other.lifetime != PERSISTENT]
             require(len(live) < LIVE_LIMIT, "KEY_LIMIT")

@@ -4,6 +4,7 @@ ghost use Rattle.driver_dispatch.specs.Calls.{Lacks};
 ghost use Rattle.turn_history.specs.Prelude.{AreNew};
 ghost use Rattle.service_calls.specs.Meanings.{model_request};
 ghost use Rattle.store_model.specs.Prelude.{Service as model_Service, IsSoundStore};
+ghost use Rattle.store_core.specs.Prelude.{HasRoom};
 ghost use Rattle.locked_store.specs.Prelude.{FindsKeysIn, IsNotOpened, IsOpenedOn, IsStartOf, world};
 ghost use Rattle.callers.specs.Prelude.{HasCounted, IsAnswered, IsOverBudget, IsReady};
 ghost use Rattle.caller_service.specs.{Closing.IsClosedOver, Closing.WereRetired, Allotments.IsAllotment, Staff.AreStaff};
@@ -119,6 +120,7 @@ impl<D: Disk, A: Devices, C: Admission, G: Gate> Service<D, A, C, G> {
         ensures seed { IfOk result (λ made. (world made.0.shared).opened.seed.value ≡ seed.now) }
         ensures rules { IfOk result (λ made. (world made.0.shared).opened.rules.value ≡ rules) }
         ensures limits { IfOk result (λ made. (world made.0.shared).opened.limits.value ≡ limits) }
+        ensures room { IfOk result (λ made. HasRoom limits (world made.0.shared).opened.file.value.cells.states) }
         ensures refused { IfErr result (λ unopened. IsNotOpened D.Disk limits disk unopened.disk unopened.fault) }
         ensures returned { IfErr result (λ unopened. unopened.devices ≡ devices) }
     {

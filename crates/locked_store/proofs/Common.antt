@@ -13,7 +13,7 @@ pub use Rattle.std.proofs.Common.{All, Bool, Err, IfErr, IfOk, IfSome, List, Non
 pub use Rattle.std.proofs.lemmas.Result.{IfErr-at_err, IfErr-weaker, IfOk-at_ok, IfOk-weaker, on_err_weaker, on_ok_weaker}
 pub use Rattle.std.specs.List.{AllByRecursion}
 pub use Rattle.store_core.proofs.{Histories.quiet_leaves, Histories.refused_leaves, Histories.told_before, Holding.has_model}
-pub use Rattle.store_core.specs.Prelude.{Adds, AddsAs, AreRising, Copies, course_of, Creates, Destroys, durable_keys, FindsKeysOf, Gives, HasAttributes, HasKeyOrIsClosed, HasKeyOrZeros, HasModel, HasOpaque, HasOut, HasOutBeside, IsAmong, IsElementAnswered, IsEntry, IsLent, IsMade, IsReading, IsRefused, IsStart, IsTold, IsUncopied, IsUndestroyed, IsUnmade, LeavesKeys, Makes, mark_of, mark_uncopied, mark_undestroyed, mark_unmade, MayDestroy, NoFewerFaults, Opening, opening_of, Reads, ReadsAndGives, RecordsCopy, RecordsStated, Stands, StandsFor, Steps, Takes, there_rows}
+pub use Rattle.store_core.specs.Prelude.{Adds, AddsAs, AreRising, Copies, course_of, Creates, Destroys, durable_keys, FindsKeysOf, Gives, HasRoom, HasAttributes, HasKeyOrIsClosed, HasKeyOrZeros, HasModel, HasOpaque, HasOut, HasOutBeside, IsAmong, IsElementAnswered, IsEntry, IsLent, IsMade, IsReading, IsRefused, IsStart, IsTold, IsUncopied, IsUndestroyed, IsUnmade, LeavesKeys, Makes, mark_of, mark_uncopied, mark_undestroyed, mark_unmade, MayDestroy, NoFewerFaults, Opening, opening_of, Reads, ReadsAndGives, RecordsCopy, RecordsStated, Stands, StandsFor, Steps, Takes, there_rows}
 pub use Rattle.store_core.specs.{declared.store.Opened.Opened, declared.store.Store.Store}
 pub use Rattle.store_model.specs.Prelude.{Call, Copy, Destroy, Entry, FaultCounts, FaultMark, HasNumber, IsCaller, IsCaused, IsSoundStore, OnStore, Plain, Request, Service, created_unless, destroy_rows, id_read, is_opaque_key, may_change_keys, plain_step, replay}
 pub use Rattle.turn_history.specs.{Prelude.OwnCalls, Prelude.StartsWith, Prelude.after_turn, Prelude.calls_by, Prelude.entries_of, Prelude.option_list, Prelude.held_by, Prelude.with_held_by, declared.pass.View.View}

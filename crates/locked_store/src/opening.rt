@@ -3,6 +3,7 @@ ghost use Rattle.std.specs.Prelude.{◌≡◌, ◌≤◌, ℕ, [], IfOk, IfErr, 
 ghost use Rattle.driver_dispatch.specs.Calls.{Lacks};
 ghost use Rattle.turn_history.specs.Prelude.{AreNew};
 ghost use Rattle.store_model.specs.Prelude.{Service, IsSoundStore};
+ghost use Rattle.store_core.specs.Prelude.{HasRoom};
 ghost use Rattle.locked_store.specs.{Closed.AreAt, Closed.IsClosed, Turning.IsStartOf, Opening.FindsKeysIn, Opening.IsNotOpened, Opening.IsOpenedOn, Shared.world, Worlds.world_of};
 
 use crate::held::{Held, Seen, SharedStore};
@@ -44,6 +45,7 @@ impl<D: Disk, A: Devices, C: Admission> SharedStore<D, A, C> {
         ensures seed { IfOk result (λ made. (world made.0).opened.seed.value ≡ seed.now) }
         ensures rules { IfOk result (λ made. (world made.0).opened.rules.value ≡ rules) }
         ensures limits { IfOk result (λ made. (world made.0).opened.limits.value ≡ limits) }
+        ensures room { IfOk result (λ made. HasRoom limits (world made.0).opened.file.value.cells.states) }
         ensures refused { IfErr result (λ unopened. IsNotOpened D.Disk limits disk unopened.disk unopened.fault) }
         ensures returned { IfErr result (λ unopened. unopened.devices ≡ devices) }
     {

@@ -1,4 +1,5 @@
 mod Common
+mod Quotas
 mod Causes
 mod Faults
 mod Written

@@ -6,7 +6,7 @@ use Rattle.script_lang.specs.declared.faults.ScriptFault.TheVariants as faults
 use Rattle.session_host.specs.{declared.lines.Unanswered.Unanswered, declared.lines.Unanswered.TheVariants.NotOpened}
 use Rattle.session_host.specs.declared.lines.Unanswered.TheVariants as unanswered
 use Rattle.psa_command.specs.declared.exit.Exit.{Exit}
-use Rattle.psa_command.specs.declared.exit.Exit.TheVariants.{Done, Usage, Script, ReadFault, WriteFault, NotAStore, DamagedCell, DiskFault, Memory}
+use Rattle.psa_command.specs.declared.exit.Exit.TheVariants.{Done, Usage, Script, ReadFault, WriteFault, NotAStore, DamagedCell, DiskFault, Memory, OverQuota}
 
 -- ends of a run before the store is opened
 abbrev pub IsBeforeOpening : Exit → Type 0
@@ -53,6 +53,7 @@ exit_of opening.Memory = Memory
 -- the end of a run whose lines have no replies
 abbrev pub exit_unanswered : Unanswered → Exit
 exit_unanswered (NotOpened fault) = exit_of fault
+exit_unanswered (unanswered.OverQuota owner) = OverQuota owner
 exit_unanswered unanswered.Memory = Memory
 
 -- the status that the program ends with
@@ -66,6 +67,7 @@ exit_status NotAStore = 5
 exit_status (DamagedCell cell) = 5
 exit_status DiskFault = 6
 exit_status Memory = 7
+exit_status (OverQuota owner) = 8
 
 -- what was taken grew by these bytes, or by their front
 abbrev pub TakesPart : List ℕ → Option (List ℕ) → Option (List ℕ) → Type 0

@@ -13,7 +13,7 @@ ghost use Rattle.command_words.specs.Words.{command_of};
 ghost use Rattle.command_words.specs.declared.command.Command as command;
 ghost use Rattle.command_words.specs.declared.command.Command.TheVariants as commands;
 ghost use Rattle.command_words.specs.declared.command.RunOptions as options;
-ghost use Rattle.psa_command.specs.{Commands.EndsBy, Commands.HasStore, Commands.IsDonePlainly, Commands.IsReadable, Ends.IsBeforeOpening, Ends.IsOfImage, Ends.IsQuiet, Ends.IsReadToEnd};
+ghost use Rattle.psa_command.specs.{Commands.EndsBy, Commands.HasStore, Commands.IsDonePlainly, Commands.IsOverQuota, Commands.IsReadable, Commands.KeepsQuotas, Commands.StatesOwners, Ends.IsBeforeOpening, Ends.IsOfImage, Ends.IsQuiet, Ends.IsReadToEnd};
 
 use crate::exit::{Ended, Exit};
 use crate::reading::read_calls;
@@ -24,6 +24,7 @@ use disk_face::Disk;
 use driver_dispatch::Devices;
 use line_generator::generated_lines;
 use outside_io::{Sink, Source};
+use owner_space::Names;
 use psa_status::Memory;
 use script_lang::ReplyForm;
 use session_host::{Run, answer_lines};
@@ -74,6 +75,7 @@ fn run_script<
         rt,
         alloc,
         script.lines(),
+        &script.names(),
         options.workers,
         ReplyForm::Ranked,
         &options.seed,
@@ -124,6 +126,7 @@ fn run_generator<K: Sink, D: Disk + Send, A: Devices, C: Admission, R: Threads +
         rt,
         alloc,
         &lines,
+        &Names::Unowned,
         1,
         ReplyForm::Unranked,
         &[0; 32],
@@ -180,13 +183,16 @@ pub fn run_command<
     ensures store { result.exit ≡ Exit.NotAStore → IfSome (D.contents disk) IsNoStore }
     ensures damaged { (cell : ℕ) → result.exit ≡ Exit.DamagedCell cell → IfSome (D.contents disk) (λ image. IsFirstDamaged image cell) }
     ensures unwritten { IsOfImage result.exit → (D.contents result.disk ≡ D.contents disk) × NoNewImage (D.may_leave disk) (D.may_leave result.disk) }
+    ensures over_quota { (owner : ℕ) → result.exit ≡ Exit.OverQuota owner → IfSome (S.left source.old) StatesOwners × IfSome (D.contents disk) (IsOverQuota owner) }
     ensures disk_fault { result.exit ≡ Exit.DiskFault → Rose (D.faults disk) (D.faults result.disk) }
     ensures complete { (c : command.Command) → command_of (L.labels rules) (map (λ w. w.now) words.now) ≡ Some c → IsReadable c (S.left source.old) → (Rose (S.faults source.old) (S.faults source.new) → ⊥) → (Rose (K.faults sink.old) (K.faults sink.new) → ⊥) → (Rose (D.faults disk) (D.faults result.disk) → ⊥) →
-        HasStore (D.contents disk) → IsDonePlainly D.Disk A.Devices L.Picked.Admission (L.labels rules) (S.left source.old) disk devices c result.disk result.devices result.exit (K.taken sink.old) (K.taken sink.new) ⊎ (result.exit ≡ Exit.Memory) }
+        HasStore (D.contents disk) → KeepsQuotas c (S.left source.old) (D.contents disk) → IsDonePlainly D.Disk A.Devices L.Picked.Admission (L.labels rules) (S.left source.old) disk devices c result.disk result.devices result.exit (K.taken sink.old) (K.taken sink.new) ⊎ (result.exit ≡ Exit.Memory) }
     ensures no_store { (c : command.Command) → command_of (L.labels rules) (map (λ w. w.now) words.now) ≡ Some c → IsReadable c (S.left source.old) → (Rose (S.faults source.old) (S.faults source.new) → ⊥) → (Rose (D.faults disk) (D.faults result.disk) → ⊥) →
         IsSomeAnd (D.contents disk) IsNoStore → (result.exit ≡ Exit.NotAStore) ⊎ (result.exit ≡ Exit.Memory) }
     ensures bad_cell { (c : command.Command) → command_of (L.labels rules) (map (λ w. w.now) words.now) ≡ Some c → IsReadable c (S.left source.old) → (Rose (S.faults source.old) (S.faults source.new) → ⊥) → (Rose (D.faults disk) (D.faults result.disk) → ⊥) →
         (cell : ℕ) → IsSomeAnd (D.contents disk) (λ image. IsFirstDamaged image cell) → (result.exit ≡ Exit.DamagedCell cell) ⊎ (result.exit ≡ Exit.Memory) }
+    ensures quota { (options : options.RunOptions) → command_of (L.labels rules) (map (λ w. w.now) words.now) ≡ Some (commands.Run options) → IsSomeAnd (S.left source.old) StatesOwners → (Rose (S.faults source.old) (S.faults source.new) → ⊥) → (Rose (D.faults disk) (D.faults result.disk) → ⊥) →
+        (owner : ℕ) → IsSomeAnd (D.contents disk) (IsOverQuota owner) → (result.exit ≡ Exit.OverQuota owner) ⊎ (result.exit ≡ Exit.Memory) }
     ensures refused { (options : options.RunOptions) → command_of (L.labels rules) (map (λ w. w.now) words.now) ≡ Some (commands.Run options) → (Rose (S.faults source.old) (S.faults source.new) → ⊥) →
         IfSome (S.left source.old) (λ text. (f : ScriptFault) → script_of text ≡ Err f → (result.exit ≡ Exit.Script f) ⊎ (result.exit ≡ Exit.Memory)) }
 {

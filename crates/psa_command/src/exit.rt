@@ -18,6 +18,7 @@ pub enum Exit {
     DamagedCell { cell: usize },
     DiskFault,
     Memory,
+    OverQuota { owner: u8 },
 }
 
 impl Exit {
@@ -34,6 +35,7 @@ impl Exit {
             Exit::NotAStore | Exit::DamagedCell { .. } => 5,
             Exit::DiskFault => 6,
             Exit::Memory => 7,
+            Exit::OverQuota { .. } => 8,
         }
     }
 
@@ -55,6 +57,7 @@ impl Exit {
     {
         match why {
             Unanswered::NotOpened(fault) => Exit::of_opening(fault),
+            Unanswered::OverQuota { owner } => Exit::OverQuota { owner },
             Unanswered::Memory => Exit::Memory,
         }
     }

@@ -2,7 +2,7 @@
 ghost use Rattle.std.specs.{Prelude.◌≡◌, Prelude.◌≤◌, Prelude.◌+◌, Prelude.List, Prelude.ℕ, Prelude.IfSome, Prelude.IfOk, Prelude.IfErr, Prelude.IsErrOf, Prelude.MatchResult, Prelude.Ok, Prelude.Err, Prelude.All, Prelude.length, Io.KnownBytes.IsAtEnd, Io.KnownBytes.Consumes};
 ghost use Rattle.psa_status.specs.Causes.{Rose};
 ghost use Rattle.outside_io.specs.Causes.{text_limit, TellsAsBefore};
-ghost use Rattle.script_lang.specs.{declared.faults.ScriptFault.ScriptFault, Prelude.script_of, Prelude.IsOfSession};
+ghost use Rattle.script_lang.specs.{declared.faults.ScriptFault.ScriptFault, Prelude.script_of, Prelude.AreOwners, Prelude.IsOfSession};
 ghost use Rattle.script_lang.specs.declared.faults.ScriptFault.TheVariants as faults;
 ghost use Rattle.psa_command.specs.Ends.{IsOfReading, IsReadToEnd};
 
@@ -15,8 +15,9 @@ use std::alloc::Global;
 /// of memory.
 pub(crate) fn read_calls<S: Source>(alloc: Global, source: &mut S) -> Result<Script, Exit>
     ensures calls { IfOk result (λ script. IfSome (S.left source.old) (λ text. script_of text ≡ Ok script)) }
-    ensures few { IfOk result (λ script. length script ≤ 20000) }
-    ensures sessions { IfOk result (λ script. All IsOfSession script) }
+    ensures few { IfOk result (λ script. length script.lines ≤ 20000) }
+    ensures sessions { IfOk result (λ script. All IsOfSession script.lines) }
+    ensures owners { IfOk result (λ script. AreOwners script.owners) }
     ensures early { IfErr result IsOfReading }
     ensures end { MatchResult result (λ script. IsAtEnd (S.left source.new)) (λ exit. IsReadToEnd exit → IsAtEnd (S.left source.new)) }
     ensures long { IsErrOf result (Exit.Script faults.TooLong) → (bytes : List ℕ) × (length bytes ≡ text_limit + 1) × Consumes (S.left source.old) (S.left source.new) bytes }

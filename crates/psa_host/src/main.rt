@@ -69,7 +69,8 @@ The status is 0 where every call was answered, which may have been by a refusal:
 the third word of a reply line says whether its call succeeded. It is 1 for words
 that aren't these, 2 for a script that isn't one, 3 and 4 where input or output
 failed, 5 for a file that is no store or a damaged one, 6 where it isn't opened, as
-a second line then says, or can't be read, 7 without memory.";
+a second line then says, or can't be read, 7 without memory, 8 where the script
+states owners and one has more than 128 keys in the store.";
 
 const VERSION: &str = "\
 psa_host 0.1.0
@@ -105,6 +106,7 @@ impl End {
             End::Run(Exit::DamagedCell { cell }) => eprintln!(rt; "damaged cell {cell}"),
             End::Run(Exit::DiskFault) => eprintln!(rt; "disk fault"),
             End::Run(Exit::Memory) => eprintln!(rt; "out of memory"),
+            End::Run(Exit::OverQuota { owner }) => eprintln!(rt; "owner {owner} over quota"),
             End::NotOpened(refusal) => eprintln!(rt; "disk fault\n{refusal}"),
         };
         if told.is_err() {}

@@ -10,7 +10,7 @@ pub use Rattle.script_lang.specs.{declared.replies.Replies.Replies, declared.rep
 pub use Rattle.service_calls.specs.{declared.output.Output.Output, Answered.AnswersReply}
 pub use Rattle.session_host.specs.{Bounds.AreBounded, Bounds.ArePlain, Bounds.LinesAreBounded, Bounds.failures_marked, Bounds.is_failure, Dealing.AreDealt, Dealing.AreTaken, Dealing.HaveOwn, Dealing.IsFree, Dealing.IsFrom, Dealing.dealt, declared.session.Session.Session, declared.worker.Worker.Worker}
 pub use Rattle.session_host.specs.{Places.failure_of, Places.failures_of, Places.failures_to, Places.of_calls, Places.ranked_call, Replying.ArePrintedAlike, Replying.Fills, Replying.IsNoted, Replying.NotesLine, Replying.reply_of}
-pub use Rattle.session_host.specs.{Running.AreCallers, Running.HaveAnswered, Running.HaveKept, Running.HaveMade, Running.HaveSeen, Running.all_replies, Runs.AreAnswered, Runs.AreOwners, Runs.IsOwnersRange, Runs.limits_by, Runs.unanswered_by, Runs.IsBroken, Runs.IsOpening, Runs.IsRun, Runs.IsInLineOrder}
+pub use Rattle.session_host.specs.{Running.AreCallers, Running.HaveAnswered, Running.HaveKept, Running.HaveMade, Running.HaveSeen, Running.all_replies, Runs.AreAnswered, Runs.AreNumbered, Runs.IsOwnersRange, Runs.limits_by, Runs.unanswered_by, Runs.IsBroken, Runs.IsOpening, Runs.IsRun, Runs.IsInLineOrder}
 pub use Rattle.session_host.specs.{Sessions.AreCalledIn, Sessions.AreTurnsIn, Sessions.GoesFurther, Sessions.HasAnswered, Sessions.HasMade, Sessions.HasReplies, Sessions.IsMade, Sessions.IsReplyTo, Sessions.IsTurnIn, Workers.AreApart, Workers.ChangesAt, Workers.HasLearned, Workers.HasSeated, Workers.HasSeen, Workers.HasWorked, Workers.HaveForm, Workers.HaveRun, Workers.IsOurs, Workers.numbers_of}
 pub use Rattle.std.proofs.{Crossing.crosses, lemmas.Bool.Decides.eqb_tells, lemmas.Bool.Decides.leb_tells, lemmas.Bool.Decides.nat_tests, lemmas.List.Elements.All-cons, lemmas.List.Elements.All-head, lemmas.List.Elements.All-nil, lemmas.List.Elements.All-push, lemmas.List.Elements.All-set, lemmas.List.Elements.All-tail, lemmas.List.Elements.All-weaker, lemmas.List.Elements.filter-append}
 pub use Rattle.std.proofs.Common.{All, Bool, Err, IfOk, IfSome, IsOk, List, MatchResult, None, Ok, Option, Result, Some, [], ap, append_assoc, ap₂, arith, cond, count_by, drop, eq-eqb, eqb, false, filter, flat_map, get_or, get_or-set_other, get_or-set_same, inl, inr, is_some, leb, length, length-append, length-set, length-take, length-take-le, map, min, ne_eqb, option_to_list, refl, replicate, set, subst, suc, sum_by, sym, take, take_all, true, vec_capacity, vec_len, zero, ℕ, ◌%◌, ◌++◌, ◌+◌, ◌-◌, ◌<◌, ◌==◌, ◌^◌, ◌∙◌, ◌∷◌, ◌≡◌, ◌≢◌, ◌≤◌, ◌⊎◌}

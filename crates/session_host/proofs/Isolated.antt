@@ -1,5 +1,5 @@
 -- The reply lines of an owner's sessions are decided by the answers to that owner's callers.
-use Rattle.session_host.proofs.Common.{All, AreCalls, AreOwners, AreTurnsIn, Bool, Entry, IsOfSession, IsStartOf, List, Names, None, Option, Owned, ReplyLine, ScriptLine, Service, Status, ToldBy, Turn, Unowned, World, [], All-head, All-map, All-nil, All-tail, All-weaker, ap, append-nil, arith, asked, cond, eqb_tells, failure_of, failure_told, false, filter, get_or, id_given, inl, inr, is_of_fault, is_some, length, lines_of, limits_by, map, nat_tests, numbered, outcome_of, output_bytes, printed, refl, replies_to, request_of, suc, subst, sym, told, true, turns_from, turns_of, zero, ℕ, ◌++◌, ◌+◌, ◌-◌, ◌<◌, ◌==◌, ◌∙◌, ◌∷◌, ◌≡◌, ◌≤◌}
+use Rattle.session_host.proofs.Common.{All, AreCalls, AreNumbered, AreTurnsIn, Bool, Entry, IsOfSession, IsStartOf, List, Names, None, Option, Owned, ReplyLine, ScriptLine, Service, Status, ToldBy, Turn, Unowned, World, [], All-head, All-map, All-nil, All-tail, All-weaker, ap, append-nil, arith, asked, cond, eqb_tells, failure_of, failure_told, false, filter, get_or, id_given, inl, inr, is_of_fault, is_some, length, lines_of, limits_by, map, nat_tests, numbered, outcome_of, output_bytes, printed, refl, replies_to, request_of, suc, subst, sym, told, true, turns_from, turns_of, zero, ℕ, ◌++◌, ◌+◌, ◌-◌, ◌<◌, ◌==◌, ◌∙◌, ◌∷◌, ◌≡◌, ◌≤◌}
 use Rattle.std.specs.List.{AllByRecursion}
 use Rattle.std.proofs.lemmas.List.Elements.{filter-append, recursion_from_All}
 use Rattle.std.proofs.lemmas.List.{get_or_append_left, get_or-append-add, length-append}
@@ -264,7 +264,7 @@ module _ {D A C : Type 0} (w : World D A C) (owners : List ℕ) (lines : List Sc
       ∙ sym (printed_answers names session (service_of (only owner start.store)) (calls_of (owners_in owners) owner history)))))
 
 pub isolated : {D A C : Type 0} (w : World D A C) (names : Names) (lines : List ScriptLine) (history : List Entry) (replies : List ReplyLine) (turns : ℕ → List Turn) →
-    ((start : Service) → IsStartOf w start → IsSoundStore start.store) → w.opened.limits.value ≡ limits_by names → AreOwners names → All IsOfSession lines →
+    ((start : Service) → IsStartOf w start → IsSoundStore start.store) → w.opened.limits.value ≡ limits_by names → AreNumbered names → All IsOfSession lines →
     ((session : ℕ) → AreTurnsIn w names history session (lines_of session lines) (turns session)) → replies ≡ replies_to 16 turns → AreIsolated w names history turns replies
 isolated w Unowned lines history replies turns sound limits owned sessions own printed = λ owners start is_owned is known tells plain session. cc
 isolated w (Owned list) lines history replies turns sound limits owned sessions own printed = λ owners start is_owned is known tells plain session.

@@ -1,6 +1,8 @@
 mod Common
 mod Gathered
+pub mod Isolated
 mod Ran
+mod Unopened
 mod Replayed
 mod Sent
 mod Whole

@@ -1,5 +1,5 @@
 -- What is known of a run, from its opening, its callers and its close.
-use Rattle.session_host.proofs.Common.{All, AreAnswered, AreOwners, Names, limits_by, AreBounded, ArePlain, Caller, FaultCounts, HaveAnswered, HaveMade, HaveSeen, IsBroken, IsOfSession, IsOpening, IsRun, List, Opened, Opening, ReplyLine, Rose, ScriptLine, Turn, World, all_replies, ap, arith, failure_of, is_some, lines_of, map, opening_of, subst, true, world_of, ℕ, ◌∙◌, ◌≡◌, failures_marked}
+use Rattle.session_host.proofs.Common.{All, AreAnswered, AreNumbered, Names, limits_by, AreBounded, ArePlain, Caller, FaultCounts, HaveAnswered, HaveMade, HaveSeen, IsBroken, IsOfSession, IsOpening, IsRun, List, Opened, Opening, ReplyLine, Rose, ScriptLine, Turn, World, all_replies, ap, arith, failure_of, is_some, lines_of, map, opening_of, subst, true, world_of, ℕ, ◌∙◌, ◌≡◌, failures_marked}
 use Rattle.atomic_table.specs.Seated.{TableId}
 use Rattle.policy_rules.specs.declared.narrowing.Label.{Label}
 use Rattle.caller_service.specs.Closing.{IsClosedOver}
@@ -49,7 +49,7 @@ module _ {D A C : Type 0} (disks : Disk.Ghosts D) (elements : Devices.Ghosts A) 
     calls = first_calls w names lines callers closed.history made.are.sixteen made.are.numbers sessions closed.left.signed closed.seen closed.called made.each d;
   }
 
-  pub answered : (replies : List (List ReplyLine)) (workers : ℕ) → AreOwners names → HaveAnswered w names lines callers replies → (workers ≡ 1 → HaveSeen lines callers) →
+  pub answered : (replies : List (List ReplyLine)) (workers : ℕ) → AreNumbered names → HaveAnswered w names lines callers replies → (workers ≡ 1 → HaveSeen lines callers) →
       AreAnswered disks elements admits disk devices named seed names workers lines (all_replies replies) disk_after devices_after
   unfolding a_run
   answered replies workers owned h one =

@@ -4,7 +4,7 @@ use Rattle.atomic_table.specs.Seated.{TableId}
 use Rattle.psa_status.specs.Causes.{Rose}
 use Rattle.policy_rules.specs.declared.narrowing.Label.{Label}
 use Rattle.store_model.specs.{Prelude.Service, Prelude.Entry, Prelude.IsSoundStore, declared.limits.Limits.Limits, declared.limits.Limits.TheVariants.PerRange, declared.limits.Limits.TheVariants.Whole}
-use Rattle.store_core.specs.{declared.store.Opened.Opened, declared.opening.StoreFault.StoreFault, declared.opening.StoreFault.TheVariants.File, declared.opening.StoreFault.TheVariants.RangeFull, Prelude.FindsKeysOf, Prelude.IsUnopened, Prelude.opening_of}
+use Rattle.store_core.specs.{declared.store.Opened.Opened, declared.opening.StoreFault.StoreFault, declared.opening.StoreFault.TheVariants.File, declared.opening.StoreFault.TheVariants.RangeFull, Prelude.FindsKeysOf, Prelude.HasRoom, Prelude.IsUnopened, Prelude.opening_of}
 use Rattle.locked_store.specs.Prelude.{IsFileNotOpened, IsStartOf, World, world_of}
 use Rattle.caller_service.specs.Closing.{IsLeft}
 use Rattle.owner_space.specs.{declared.names.Names.Names, declared.names.Names.TheVariants.Owned, declared.names.Names.TheVariants.Unowned, Owners.owner_count}
@@ -13,7 +13,7 @@ use Rattle.session_host.specs.{Bounds.AreBounded, Bounds.ArePlain, Bounds.failur
 use Rattle.disk_face.specs.declared.Disk as Disk
 use Rattle.driver_dispatch.specs.declared.devices.Devices as Devices
 use Rattle.admission.specs.declared.rules.Admission as Admission
-use Rattle.key_cells.specs.Prelude.{IsOpenedFile}
+use Rattle.key_cells.specs.Prelude.{IsFoundIn, IsOpenedFile}
 
 -- the calls of a history are made in the order of the lines
 abbrev pub IsInLineOrder : List ScriptLine → List Entry → Type 0
@@ -25,9 +25,9 @@ limits_by Unowned = Whole
 limits_by (Owned owners) = PerRange
 
 -- owners are numbered from 0 to 15
-abbrev pub AreOwners : Names → Type 0
-AreOwners Unowned = Unit {0}
-AreOwners (Owned owners) = All (λ owner. owner < owner_count) owners
+abbrev pub AreNumbered : Names → Type 0
+AreNumbered Unowned = Unit {0}
+AreNumbered (Owned owners) = All (λ owner. owner < owner_count) owners
 
 -- why lines have no replies whose store wasn't opened
 abbrev pub unanswered_by : StoreFault → Unanswered
@@ -41,7 +41,8 @@ IsOwnersRange (RangeFull range) = range < owner_count
 
 module _ {D A C : Type 0} (w : World D A C) where
   -- The opening of a store from this disk, with these devices, rules of these labels, this seed and these limits. There
-  -- is a start, and each is sound. Where the disk tells its bytes, the keys of a start are those of its image. The disk's count of faults hasn't fallen.
+  -- is a start, and each is sound. Where the disk tells its bytes, the keys of a start are those of its image. The disk's count of faults
+  -- hasn't fallen, and where there are limits by range no range has more keys than it may.
   pub record IsOpening (disk : D) (devices : A) (named : List Label) (seed : List ℕ) (limits : Limits) : Type 0 where
     pub starts : (start : Service) × IsStartOf w start
     pub sound : (start : Service) → IsStartOf w start → IsSoundStore start.store
@@ -52,6 +53,8 @@ module _ {D A C : Type 0} (w : World D A C) where
     pub seed_is : w.opened.seed.value ≡ seed
     pub rules_are : w.rules.labels w.opened.rules.value ≡ named
     pub limits_are : w.opened.limits.value ≡ limits
+    pub directory : IfSome (w.disk.contents disk) (λ image. IsFoundIn image w.opened.file.value.cells.states)
+    pub room : HasRoom limits w.opened.file.value.cells.states
 
 module _ {D A C : Type 0} (disks : Disk.Ghosts D) (elements : Devices.Ghosts A) (admits : Admission.Ghosts C) where
   -- A run: the store of this disk was opened under a lock, calls were made in one order, a history, and the store was closed. No

@@ -2,7 +2,7 @@
 ghost use Rattle.std.specs.Prelude.{◌≡◌, ◌≤◌, ◌⊎◌, List, ℕ, All, MatchResult, length};
 ghost use Rattle.driver_dispatch.specs.Calls.{Lacks};
 ghost use Rattle.script_lang.specs.Prelude.{IsOfSession};
-ghost use Rattle.session_host.specs.Runs.{AreAnswers, AreOwners, IsOwnersRange, IsUnanswered, limits_by, unanswered_by};
+ghost use Rattle.session_host.specs.Runs.{AreAnswers, AreNumbered, IsOwnersRange, IsUnanswered, limits_by, unanswered_by};
 
 use crate::running::run_sessions;
 use admission::Admission;
@@ -52,7 +52,7 @@ fn limits_by(names: &Names) -> Limits
 }
 
 /// Why lines have no replies whose store isn't opened.
-fn unanswered(fault: StoreFault) -> Unanswered
+fn not_opened(fault: StoreFault) -> Unanswered
     requires { IsOwnersRange fault }
     ensures { result ≡ unanswered_by fault }
 {
@@ -77,7 +77,7 @@ pub fn answer_lines<D: Disk + Send, A: Devices, C: Admission, R: Threads + Wait 
     rules: C,
 ) -> Run<D, A>
     requires sessions { All IsOfSession lines.now }
-    requires owners { AreOwners names.now }
+    requires owners { AreNumbered names.now }
     requires few { length lines.now ≤ 20000 }
     requires first { 1 ≤ workers }
     requires last { workers ≤ 16 }
@@ -93,7 +93,7 @@ pub fn answer_lines<D: Disk + Send, A: Devices, C: Admission, R: Threads + Wait 
         Ok(opened) => opened,
         Err(unopened) => {
             return Run {
-                replies: Err(unanswered(unopened.fault)),
+                replies: Err(not_opened(unopened.fault)),
                 disk: unopened.disk,
                 devices: unopened.devices,
             };

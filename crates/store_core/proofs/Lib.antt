@@ -16,7 +16,7 @@ mod DestroyTurn
 mod Asked
 mod Added
 mod Checked
-mod Ranges
+pub mod Ranges
 mod Makes
 mod MakesKept
 mod MakesVolatile

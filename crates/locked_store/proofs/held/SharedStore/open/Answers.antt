@@ -1,4 +1,4 @@
-use Rattle.locked_store.proofs.Common.{FindsKeysOf, IfSome, IsSoundStore, IsStart, Service, ap, arith, inr, is_some, lock_of, opened_of, subst, sym}
+use Rattle.locked_store.proofs.Common.{FindsKeysOf, HasRoom, IfSome, IsSoundStore, IsStart, Service, ap, arith, inr, is_some, lock_of, opened_of, subst, sym}
 use Rattle.locked_store.proofs.held.SharedStore.open.Goals as goal
 
 pub new-requires-clause-stands : goal.new-requires-clause-stands
@@ -28,6 +28,12 @@ returns-in-Ok-clause-sound g c = subst (λ o. (start : Service) → IsStart g.D.
 pub returns-in-Ok-clause-keys : goal.returns-in-Ok-clause-keys
 unfolding lock_of opened_of
 returns-in-Ok-clause-keys g c = subst (λ o. IfSome (g.D.Disk.contents c.args.disk) (FindsKeysOf g.D.Disk g.A.Devices g.C.Admission o)) (sym c.in-Ok.ensures.lock.1) c.in_ok-store.ensures.keys
+
+pub returns-in-Ok-clause-room : goal.returns-in-Ok-clause-room
+unfolding lock_of opened_of
+returns-in-Ok-clause-room g c =
+    let e = c.in_ok-store.ensures in
+    subst (λ o. HasRoom c.args.limits o.file.value.cells.states) (sym c.in-Ok.ensures.lock.1) (subst (λ f. HasRoom c.args.limits f.cells.states) (sym e.saw_file) e.room)
 
 pub invariant_of-seen : goal.invariant_of-seen
 unfolding lock_of opened_of
