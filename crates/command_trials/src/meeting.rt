@@ -115,8 +115,8 @@ fn run_meeting<D: Disk + Send + Drop, A: Devices, C: Admission, R: Threads + Wai
     devices: A,
     rules: C,
 ) -> Result<Met, AllocError>
-    requires sessions { All IsOfSession script.now }
-    requires few { length script.now ≤ 20000 }
+    requires sessions { All IsOfSession script.now.lines }
+    requires few { length script.now.lines ≤ 20000 }
     requires empty { (handle : ℕ) → Lacks (A.keys devices) handle }
 {
     let opened = Service::open(
@@ -133,7 +133,9 @@ fn run_meeting<D: Disk + Send + Drop, A: Devices, C: Admission, R: Threads + Wai
         return Err(AllocError);
     };
     let form = ReplyForm::Unranked;
-    let ran = run_sessions(rt, alloc, &service, script.lines(), 2, form, &mut callers);
+    let ran = run_sessions(
+        rt, alloc, &service, &script.names(), script.lines(), 2, form, &mut callers,
+    );
     let held_at = service.gate.held_at.load(Ordering::SeqCst);
     let limits = service.gate.limits.load(Ordering::SeqCst);
     let Closed {
