@@ -3,9 +3,10 @@
 
     tests/owners.py [PROGRAM [CALLS [FIRST]]]
 
-makes scripts at random, from the number FIRST (1) and on, until at least CALLS calls (20,000) were made. The program is
-./psa where none is named. In a script sixteen sessions of five owners create, copy, use, purge and destroy keys that most of
-them name by the same identifiers. Each script runs with 4, 16 and 1 workers, one run after the other on one store.
+makes scripts at random, from the number FIRST (1) and on, until at least CALLS calls (20,000) were made by 4 workers. The
+program is ./psa where none is named. In a script sixteen sessions of five owners create, copy, use, purge and destroy keys,
+of which all owners name some by the same identifiers; in every second script one owner comes to its quota. Each script runs
+with 4, 16 and 1 workers, one run after the other on one store.
 
 Made on the reference with owners in the order of the ranks, the calls have to have every reply that was printed, and the
 store's file has to be the reference's afterwards. Then the calls of each owner alone, in that order, run over a store of
@@ -26,6 +27,7 @@ from owners import OwnedService
 from program import program_of, require_same, run_script, scratch
 from runs import by_rank, replayed, text_of
 from scripts import Mix, Script
+from service import PERSISTENT
 from store_file import require_file
 
 OWNERS = (0, 1, 2, 7, 15)
@@ -42,12 +44,21 @@ SHARED = Mix(
     strange_costs=(0, 100001),
 )
 LINES = 2000
-WORKERS = (4, 16, 1)
+WORKERS = (4, 4, 4, 16, 1)
 
 
 def owner_lines(owners):
     """The lines that give sessions their owners. Those of owner 0 may be left out."""
     return "".join(f"{session} owner {owner}\n" for session, owner in owners.items())
+
+
+def fill(script, owners, owner):
+    """Writes creations of persistent keys by sessions of an owner until it has come to its quota."""
+    own = [session for session in range(1, 17) if owners.get(session, 0) == owner]
+    for identifier in itertools.count(1):
+        place = {"life": PERSISTENT, "id": identifier}
+        if not own or script.make(script.creation(script.random.choice(own), place)) == "INSUFFICIENT_STORAGE":
+            return
 
 
 def without_rank(reply):
@@ -88,12 +99,14 @@ class Stores:
 def main():
     program = program_of(sys.argv)
     wanted, first = (int(word) for word in (*sys.argv[2:], *("20000", "1")[len(sys.argv[2:]) :]))
-    statuses = collections.Counter()
+    statuses, by_four = collections.Counter(), 0
     for number in itertools.count(first):
         chance = random.Random(number)
         owners = {session: chance.choice(OWNERS) for session in range(1, 17)}
         owners = {session: owner for session, owner in owners.items() if owner or chance.random() < 0.5}
         script = Script(chance, OwnedService(owners), SHARED)
+        if number % 2:
+            fill(script, owners, chance.choice(OWNERS))
         script.write(LINES)
         with scratch() as folder:
             stores = Stores(program, folder, owners)
@@ -104,8 +117,9 @@ def main():
                     print(f"script {number}, {workers} workers: {difference}")
                     return 1
                 statuses.update(reply.split()[2] for reply in run.replies())
-        if statuses.total() >= wanted:
-            print(f"{statuses.total()} calls: {', '.join(f'{status} {count}' for status, count in statuses.most_common())}")
+                by_four += len(run.lines) if workers == 4 else 0
+        if by_four >= wanted:
+            print(f"{statuses.total()} calls, {by_four} by 4 workers: {', '.join(f'{status} {count}' for status, count in statuses.most_common())}")
             return 0
 
 

@@ -54,8 +54,9 @@ class OwnedService(Service):
         answer = super().attributes(session, fields)
         return answer[:4] + self.told(int.from_bytes(answer[4:8], "big")).to_bytes(4, "big") + answer[8:]
 
-    def has_key(self, session, identifier):
-        return super().has_key(session, self.named(session, identifier))
+    def named_keys(self, session):
+        own = lambda key: self.owner(key.creator) if key.identifier >= FIRST_VOLATILE else range_of(key.identifier)
+        return {self.told(id): key for id, key in self.keys.items() if own(key) == self.owner(session)}
 
     def has_room(self, identifier):
         own = [key for key in self.cells if key and range_of(key.identifier) == range_of(identifier)]

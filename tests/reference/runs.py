@@ -48,7 +48,7 @@ class Run:
 
     def living(self, session):
         """Those of them that name a key which is there."""
-        return [name for name in self.named(session) if self.service.has_key(session, self.given[session, name])]
+        return [name for name in self.named(session) if self.given[session, name] in self.service.named_keys(session)]
 
     def identifier(self, session, word):
         """What a session's word for a key means."""

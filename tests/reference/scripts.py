@@ -135,9 +135,14 @@ class Script:
             kinds = [alg.class_of(number) for key in self.run.service.keys.values() for number in key.algorithms]
         return self.often([kind for kind in kinds if kind in NUMBERS] + ["hash"], [*NUMBERS])
 
+    def keys(self, session):
+        """The keys that the session can name, and now and then those that another session can."""
+        other = self.often([session], self.mix.sessions, 0.95)
+        return self.run.service.named_keys(other)
+
     def key(self, session, kind=None):
         """A key whose policy is of this class, if there is one, and now and then any other; and a number of its policy's."""
-        keys = self.run.service.keys
+        keys = self.keys(session)
         if keys and self.random.random() < self.mix.by_identifier:
             fits = lambda identifier: not kind or kind in map(alg.class_of, keys[identifier].algorithms)
             persistent = [identifier for identifier in keys if identifier <= LAST_PERSISTENT]
@@ -198,7 +203,7 @@ class Script:
         command = pick(["import", "import", "import", "generate", "copy"]) if self.run.named(session) else "import"
         if command == "copy":
             key, policy = self.key(session, alg.class_of(number))
-            source = self.run.service.keys.get(self.run.identifier(session, key[1]))
+            source = self.run.service.named_keys(session).get(self.run.identifier(session, key[1]))
             if source and source.is_in_the_element() and self.random.random() < 0.7:
                 place = {"life": OF_THE_ELEMENT}
             number = self.often([policy], [number, self.variant(policy)], 0.5)

@@ -64,9 +64,9 @@ class Service:
                 return self.set_up(session, command, fields, family)
         return self.step(session, command, fields)
 
-    def has_key(self, session, identifier):
-        """Whether there is a key by which the session names this identifier."""
-        return identifier in self.keys
+    def named_keys(self, session):
+        """The keys by the identifiers by which the session names them."""
+        return self.keys
 
     def has_room(self, identifier):
         """Whether the file has room for a key of this identifier."""

@@ -165,22 +165,22 @@ words_end read (w ∷ name ∷ ws) = step _ (asked (session_of w) BadSession (se
         }))
     by s is false t =
         weaker (call_ends read s name ws) (λ e h. inr (s, is, no_call e h)) (λ next h.
-          let row = h.0 in let at = h.1 in let p = h.3 in inl (record {
-            session = s;
-            row = row;
-            fixed = p.0;
-            fields = p.1;
-            session_word = w;
-            fixed_words = p.2;
-            field_words = p.3;
-            is_row = row_read name row at;
-            is_session = is;
-            line = ap₂ (λ (n : List ℕ) xs. w ∷ n ∷ xs) (sym (named_read name row at)) p.4;
-            are_fixed = p.5;
-            are_fields = p.6;
-            all = p.7;
-            after = h.4 ∙ ap (λ (q : Option (List ℕ) × ScriptCall). with_call read s q.0 q.1) p.8;
-          }))
+        let row = h.0 in let at = h.1 in let p = h.3 in inl (record {
+          session = s;
+          row = row;
+          fixed = p.0;
+          fields = p.1;
+          session_word = w;
+          fixed_words = p.2;
+          field_words = p.3;
+          is_row = row_read name row at;
+          is_session = is;
+          line = ap₂ (λ (n : List ℕ) xs. w ∷ n ∷ xs) (sym (named_read name row at)) p.4;
+          are_fixed = p.5;
+          are_fields = p.6;
+          all = p.7;
+          after = h.4 ∙ ap (λ (q : Option (List ℕ) × ScriptCall). with_call read s q.0 q.1) p.8;
+        }))
       where
         no_call : (e : Reason) → IsNoCall read s name ws e → IsBadCommand read s (name ∷ ws) e
         no_call e (inl h) = inl (h.0, λ same. both_ways _ t ((bytes_eq-Decides name (codes "owner")).1 same), h.1)

@@ -1,8 +1,7 @@
 -- The reply lines of an owner's sessions are decided by the answers to that owner's callers.
-use Rattle.session_host.proofs.Common.{All, AreCalls, AreNumbered, AreTurnsIn, Bool, Entry, IsOfSession, IsStartOf, List, Names, None, Option, Owned, ReplyLine, ScriptLine, Service, Status, ToldBy, Turn, Unowned, World, [], All-head, All-map, All-nil, All-tail, All-weaker, ap, append-nil, arith, asked, cond, eqb_tells, failure_of, failure_told, false, filter, get_or, id_given, inl, inr, is_of_fault, is_some, length, lines_of, limits_by, map, nat_tests, numbered, outcome_of, output_bytes, printed, refl, replies_to, request_of, suc, subst, sym, told, true, turns_from, turns_of, zero, ℕ, ◌++◌, ◌+◌, ◌-◌, ◌<◌, ◌==◌, ◌∙◌, ◌∷◌, ◌≡◌, ◌≤◌}
+use Rattle.session_host.proofs.Common.{All, AreCalls, AreNumbered, AreTurnsIn, Bool, Entry, IsOfSession, IsStartOf, List, Names, None, Owned, ReplyLine, ScriptLine, Service, Status, ToldBy, Turn, Unowned, World, [], DataCorrupt, HardwareFailure, StorageFailure, ap, arith, cond, leb_tells, eqb_tells, failure_of, failure_told, false, filter, get_or, id_given, inl, inr, is_of_fault, is_some, lines_of, limits_by, map, nat_tests, numbered, outcome_of, output_bytes, refl, replies_to, request_of, suc, subst, sym, told, true, turns_from, turns_of, zero, ℕ, ◌++◌, ◌+◌, ◌-◌, ◌<◌, ◌==◌, ◌∙◌, ◌∷◌, ◌≡◌, ◌≤◌, ◌⊎◌}
 use Rattle.std.specs.List.{AllByRecursion}
-use Rattle.std.proofs.lemmas.List.Elements.{filter-append, recursion_from_All}
-use Rattle.std.proofs.lemmas.List.{get_or_append_left, get_or-append-add, length-append}
+use Rattle.std.proofs.lemmas.List.Elements.{recursion_from_All}
 use Rattle.store_model.specs.Prelude.{IsSoundStore, start_of, service_of}
 use Rattle.store_model.specs.declared.limits.Limits.TheVariants.{PerRange}
 use Rattle.owner_space.specs.Owners.{Owners, owner_count, owners_in, request_inside}
@@ -118,14 +117,13 @@ module _ (names : Names) where
   abbrev line_of : ℕ → Answered → ReplyLine
   line_of number a = record { session = a.entry.caller; number = number; rank = 0; status = a.reply.status; bytes = output_bytes a.reply.output }
 
-  lines_from : ℕ → List Answered → List ReplyLine
+  abbrev lines_from : ℕ → List Answered → List ReplyLine
   lines_from number [] = []
   lines_from number (a ∷ rest) = line_of number a ∷ lines_from (number + 1) rest
 
   abbrev to_session : ℕ → List Answered → List Answered
   to_session session = filter (λ a. a.entry.caller == session)
 
-  unfolding lines_from
   printed_by : (number : ℕ) (ts : List Turn) → map without_rank (numbered number ts) ≡ lines_from number (map answer_of ts)
   printed_by number [] = refl
   printed_by number (t ∷ ts) = ap (λ l. line_of number (answer_of t) ∷ l) (printed_by (number + 1) ts)
@@ -241,11 +239,10 @@ module _ {D A C : Type 0} (w : World D A C) (owners : List ℕ) (lines : List Sc
     where
       within : (session : ℕ) → ((1 ≤ session) × (session ≤ 16)) ⊎ (1 ≤ session → session ≤ 16 → ⊥)
       within zero = inr (λ low high. omega arith)
-      within (suc n) = by (nat_le n 15) refl
-        where
-          by : (b : Bool) → nat_le n 15 ≡ b → ((1 ≤ suc n) × (suc n ≤ 16)) ⊎ (1 ≤ suc n → suc n ≤ 16 → ⊥)
-          by true t = inl (omega arith, let l = leb-true n 15 t in omega arith)
-          by false t = inr (λ low high. let l = leb-false n 15 t in omega arith)
+      within (suc n) = elim (leb_tells (suc n) 16) [
+        | inl le ↦ inl (omega arith, le.1)
+        | inr gt ↦ inr (λ low high. let g = gt.1 in omega arith)
+      ]
 
   pub lines_isolated : (session : ℕ) → unranked_lines (turns session) ≡ lines_alone owners session start history
   lines_isolated session =

@@ -37,6 +37,7 @@ use Rattle.locked_store.specs.contracts.held.SharedStore as Shared
 use Rattle.operation_handles.specs.contracts.handle.OperationHandle as OperationHandle
 use Rattle.callers.specs.contracts.caller.Caller as Caller
 use Rattle.caller_service.specs.contracts.service.Service as Service
+use Rattle.owner_space.specs.contracts.names.Names as Names
 use Rattle.script_lang.specs.contracts.replies.Replies as Replies
 use Rattle.session_host.specs.contracts.session.Session as Session
 use Rattle.session_host.specs.contracts.worker.Worker as Worker
@@ -99,9 +100,13 @@ module _ (D A C : RattleType) (d : IsSend D) (a : IsSend A) (c : IsSend C) where
         declared_sync (Service.the_type D A C G dg ag cg)
         (declared_sync (Shared.the_type D A C dg ag cg) (lock_sync (Held.the_row D A C) _ _ _ held_send, (search (sendable, crosses) depth 20, tt)), (search sendable, (as_row_sync (row_field G) g, tt)))
 
+names_sync : IsSync Names.the_row
+names_sync = search (sendable, crosses) depth 40
+
 -- what a closure borrows that runs a worker
-module _ (ν : Sym) (ℓ₁ ℓ₂ ℓ₃ ℓ₄ : NamedLft) (R H S L : RattleType) (one₁ : builtin.One R.mir) (one₂ : builtin.One H.mir) (one₃ : builtin.One S.mir) (one₄ : builtin.One L.mir) (r : IsSync R) (h : IsSync H) (s : IsSync S) (l : IsSync L) where
-  pub closure_sync : IsSync (TupleAt ν ((shr_ref_field ℓ₁ R one₁).row ∷ (shr_ref_field ℓ₂ H one₂).row ∷ (shr_ref_field ℓ₃ S one₃).row ∷ (shr_slice_field ℓ₄ L one₄).row ∷ []))
+module _ (ν : Sym) (ℓ₁ ℓ₂ ℓ₃ ℓ₄ ℓ₅ : NamedLft) (R H S L : RattleType) (one₁ : builtin.One R.mir) (one₂ : builtin.One H.mir) (one₃ : builtin.One S.mir) (one₄ : builtin.One Names.the_row.mir) (one₅ : builtin.One L.mir) (r : IsSync R) (h : IsSync H) (s : IsSync S) (l : IsSync L) where
+  pub closure_sync : IsSync (TupleAt ν ((shr_ref_field ℓ₁ R one₁).row ∷ (shr_ref_field ℓ₂ H one₂).row ∷ (shr_ref_field ℓ₃ S one₃).row ∷ (shr_ref_field ℓ₄ Names.the_row one₄).row ∷ (shr_slice_field ℓ₅ L one₅).row ∷ []))
   closure_sync =
-      declared_sync (type_at ν ((shr_ref_field ℓ₁ R one₁).row ∷ (shr_ref_field ℓ₂ H one₂).row ∷ (shr_ref_field ℓ₃ S one₃).row ∷ (shr_slice_field ℓ₄ L one₄).row ∷ []))
-      (search sendable, (search sendable, (search sendable, (search sendable, tt))))
+      let names = names_sync in
+      declared_sync (type_at ν ((shr_ref_field ℓ₁ R one₁).row ∷ (shr_ref_field ℓ₂ H one₂).row ∷ (shr_ref_field ℓ₃ S one₃).row ∷ (shr_ref_field ℓ₄ Names.the_row one₄).row ∷ (shr_slice_field ℓ₅ L one₅).row ∷ []))
+      (search sendable, (search sendable, (search sendable, (search sendable, (search sendable, tt)))))

@@ -22,7 +22,7 @@ pub record IsTold (names : Names) (result answer : Result Output Status) : Type 
 -- it fails with the same status
 pub same_failure : (result answer : Result Output Status) → MatchResult result (λ output. IsOk answer) (λ status. answer ≡ Err status) → failure_in answer ≡ failure_in result
 same_failure (Ok output) (Ok other) h = refl
-same_failure (Ok output) (Err status) h = absurd h
+same_failure (Ok output) (Err status) h = cc
 same_failure (Err status) answer h = ap failure_in h
 
 -- what a session is told of the answer to a call is the reply to its entry

@@ -175,7 +175,7 @@ module _ {D A C : Type 0} (w : World D A C) (names : Names) (lines : List Script
     pub counts_agree : (n : ℕ) → length (lines_of n lines) ≡ length (calls_by caller_of n history)
     counts_agree n =
         let own = own_turns n in
-        calls_length [] (lines_of n lines) (turns n) own.calls
+        calls_length names [] (lines_of n lines) (turns n) own.calls
         ∙ (sym (length-map (turns n) ranked_call)
         ∙ (ap length own.placed ∙ as_many (λ rank e. (rank, e)) n 0 history))
 

@@ -13,7 +13,7 @@ pub for_each_mut-requires-sync-F : goal.for_each_mut-requires-sync-F
 for_each_mut-requires-sync-F g c κs within =
     let S = Service.the_row (param 0 g.row.D) (param 1 g.row.A) (param 2 g.row.C) (param 3 g.row.G) g.D.Disk g.A.Devices g.C.Admission in
     let service = service_sync (param 0 g.row.D) (param 1 g.row.A) (param 2 g.row.C) c.type_bounds.send-D c.type_bounds.send-A c.type_bounds.send-C (param 3 g.row.G) g.D.Disk g.A.Devices g.C.Admission c.type_bounds.sync-G in
-    param_sync 2 _ (arg_sync _ no _ (closure_sync _ _ _ _ _ (param 4 g.row.R) _ S ScriptLine.the_row tt tt tt tt c.type_bounds.sync-R heap.sync service (search (sendable, crosses) depth 60 fits 100000)))
+    param_sync 2 _ (arg_sync _ no _ (closure_sync _ _ _ _ _ _ (param 4 g.row.R) _ S ScriptLine.the_row tt tt tt tt tt c.type_bounds.sync-R heap.sync service (search (sendable, crosses) depth 60 fits 100000)))
 
 pub returns : goal.returns
 returns g c k d within =
