@@ -1,8 +1,9 @@
 -- Owners of callers, and the identifiers by which each owner names its keys.
-use Rattle.std.specs.Prelude.{◌≡◌, ◌≢◌, ℕ, ◌+◌, ◌-◌, ◌*◌, ◌/◌, ◌%◌, ◌^◌, ◌<◌, Bool, nat_lt, nat_le, ◌&&◌, ◌==◌, if◌then◌else◌, List, get_or}
+use Rattle.std.specs.Prelude.{◌≡◌, ◌≢◌, ℕ, ◌+◌, ◌-◌, ◌*◌, ◌/◌, ◌%◌, ◌^◌, ◌<◌, Bool, nat_lt, nat_le, ◌&&◌, ◌==◌, if◌then◌else◌, List, None, get_or}
 use Rattle.key_attributes.specs.declared.Attributes.{Attributes}
 use Rattle.store_model.specs.Call.{Call, Import, Export, GetAttributes, Destroy, Purge, Copy, Generate, MacCompute, MacVerify, CipherEncrypt, CipherDecrypt, AeadEncrypt, AeadDecrypt, Output, Identifier, Description, Reply}
-use Rattle.store_model.specs.{Creation.identified, Store.caller_count}
+use Rattle.std.specs.FinMap as map
+use Rattle.store_model.specs.{Creation.identified, Sound.IsSoundStore, Store.Store, Store.caller_count}
 use Rattle.store_model.specs.HandleCalls.{HandleCall, MacSetup, CipherSetup, AeadSetup, InputKey, OutputKey}
 use Rattle.store_model.specs.Requests.{Request, OnStore, OnHandle}
 
@@ -95,6 +96,10 @@ abbrev pub reply_outside : Reply → Reply
 reply_outside reply = record reply { output = output_outside reply.output }
 
 -- LAWS OF IDENTIFIERS
+
+-- no key of a sound store has the identifier of none, or 0
+abbrev pub NoneIsNamed : Type 0
+NoneIsNamed = (store : Store) → IsSoundStore store → (map.get store.keys no_identifier ≡ None) × (map.get store.keys 0 ≡ None)
 
 -- what an owner names, it is told by the identifier by which it names it, where a key may have what is inside
 abbrev pub NamesComeBack : Type 0

@@ -6,12 +6,13 @@
 //!   owner's callers, or one that no key has (`inside`, `inside_created`); outside it is what the owner names (`outside`).
 //! - `OwnerMap::call`, `answer`; `Names::call`, `answer`: of a call and of an answer these change the identifiers alone
 //!   (`request_inside`, `reply_outside`), and where there are no owners nothing (`asked`, `told`).
-//! - its laws `owners_name_their_own`: what an owner names it is told by the same identifier, and no two owners name one key;
+//! - its laws `owners_name_their_own`: what an owner names it is told by the same identifier, no two owners name one key, and no
+//!   key has the identifier that stands for what an owner can't name;
 //!   `owners_are_isolated`: over every history of which no reply tells of a failed device, an owner's callers are answered as
 //!   by a store that has their owner's keys alone and serves their calls alone.
 #![tactic(auto)]
 
-ghost use Rattle.owner_space.specs.{Isolation.OwnersAreIsolated, Owners.NamesAreApart, Owners.NamesComeBack};
+ghost use Rattle.owner_space.specs.{Isolation.OwnersAreIsolated, Owners.NamesAreApart, Owners.NamesComeBack, Owners.NoneIsNamed};
 
 mod calls;
 mod names;
@@ -20,10 +21,12 @@ mod owners;
 pub use names::Names;
 pub use owners::{Owner, OwnerMap};
 
-/// What an owner names, it is told by the identifier by which it names it; and no two owners name one key.
+/// What an owner names, it is told by the identifier by which it names it; no two owners name one key; and what an owner can't
+/// name has an identifier that no key has.
 pub fn owners_name_their_own()
     ensures back { NamesComeBack }
     ensures apart { NamesAreApart }
+    ensures nobody { NoneIsNamed }
 {}
 
 /// Owners don't see each other: from each sound start whose keys are limited by range, over every history of owners' calls

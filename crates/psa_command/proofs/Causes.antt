@@ -1,5 +1,5 @@
 -- Why a command ends as it does.
-use Rattle.std.proofs.Common.{Err, IfSome, IsOk, IsOkAnd, IsSome, IsSomeAnd, false, List, None, Ok, Option, Some, [], ap, arith, inl, inr, is_some, length, refl, subst, sym, true, ℕ, ◌∷◌, ◌≡◌, ◌⊎◌}
+use Rattle.std.proofs.Common.{Err, IfSome, IsOk, IsOkAnd, IsSome, IsSomeAnd, false, List, None, Ok, Option, Some, [], ap, arith, inl, inr, is_some, length, refl, subst, sym, true, ℕ, ◌∙◌, ◌∷◌, ◌≡◌, ◌⊎◌}
 use Rattle.psa_command.proofs.Common.{IsSaidBy, IsOverQuota, KeepsQuotas, StatesOwners, OverQuota, Said, Command, DamagedCell, DiskFault, Done, EndsBy, Exit, HasStore, IsDonePlainly, IsOfImage, IsReadable, IsRun, IsUnrun, IsWritten, Memory, NotAStore, ReadFault, ReplyLine, Script, ScriptFault, Usage, WriteFault, exit_of, exit_unanswered, leb_tells, script_of, text_by, options_of}
 use Rattle.script_lang.specs.Prelude.{AreOwners}
 use Rattle.owner_space.specs.{Naming.names_by, declared.names.Names.TheVariants.Unowned}
@@ -52,10 +52,10 @@ SaysOwners (Generate count) left = ⊥
 -- each owner has a limit of its own exactly where there are owners
 has_owners : (owners : Option (List ℕ)) → is_per_range (limits_by (names_by owners)) ≡ true → IsSome owners
 has_owners None per = cc
-has_owners (Some list) per = tt
+has_owners (Some list) per = refl
 
 has_limits : (owners : Option (List ℕ)) → IsSome owners → is_per_range (limits_by (names_by owners)) ≡ true
-has_limits None some = absurd some
+has_limits None some = cc
 has_limits (Some list) some = refl
 
 says_owners : (command : Command) (left : Option (List ℕ)) (said : Said) → IsSaidBy command left said → is_per_range (limits_by (names_by said.owners)) ≡ true → SaysOwners command left
@@ -159,7 +159,7 @@ module _ {D A C : Type 0} (disks : Disk.Ghosts D) (elements : Devices.Ghosts A) 
       tells None has refused = refused
       tells (Some image) has refused = refuses image has refused
 
-      by : (why : Unanswered) → OverQuota owner ≡ exit_unanswered why → IsUnanswered disks elements admits disk devices _ _ (names_by u.said.owners) u.said.lines why disk_after devices_after → IsSomeAnd (disks.contents disk) P → ⊥
+      by : (why : Unanswered) → OverQuota owner ≡ exit_unanswered why → IsUnanswered disks elements admits disk devices (picked (options_of command).labels given) (options_of command).seed (names_by u.said.owners) u.said.lines why disk_after devices_after → IsSomeAnd (disks.contents disk) P → ⊥
       by (NotOpened opening.NotAStore) is un = cc
       by (NotOpened (opening.DamagedCell cell)) is un = cc
       by (NotOpened opening.Disk) is un = cc

@@ -1,7 +1,7 @@
 -- Why the calls of a script can't be read.
 use Rattle.std.proofs.Common.{Bool, Err, IfSome, List, None, Ok, Option, Result, Some, [], ap, arith, cond, false, length, length-append, nat_lt, refl, subst, sym, true, ℕ, ◌+◌, ◌<◌, ◌∙◌, ◌∷◌, ◌≡◌, ◌≤◌}
 use Rattle.std.proofs.lemmas.Option.{IfSome_then}
-use Rattle.psa_command.proofs.Common.{Consumes, Exit, Read, Script, ScriptFails, ScriptFault, ScriptLine, or_bad_line, line_words, lines_at, nat_tests, nothing_read, script_of, text_lines, words_at}
+use Rattle.psa_command.proofs.Common.{Consumes, Exit, Read, Script, ScriptFails, ScriptFault, Said, or_bad_line, line_words, lines_at, nat_tests, nothing_read, script_of, text_lines, words_at}
 use Rattle.script_lang.specs.declared.faults.Reason.{Reason}
 use Rattle.script_lang.specs.declared.faults.ScriptFault.TheVariants as faults
 
@@ -17,10 +17,10 @@ long_source (Some text) (Some rest) h = too_long text (omega (arith, h.1, ap len
 
 -- a text within 4 MiB isn't refused as too long
 
-abbrev too_long_read : Result (List ScriptLine) ScriptFault
+abbrev too_long_read : Result Said ScriptFault
 too_long_read = Err faults.TooLong
 
-goes_not : (r : Result Read Reason) (n : ℕ) (f : Read → Result (List ScriptLine) ScriptFault) → ((next : Read) → f next ≡ too_long_read → ⊥) → or_bad_line r n f ≡ too_long_read → ⊥
+goes_not : (r : Result Read Reason) (n : ℕ) (f : Read → Result Said ScriptFault) → ((next : Read) → f next ≡ too_long_read → ⊥) → or_bad_line r n f ≡ too_long_read → ⊥
 goes_not (Ok next) n f h e = h next e
 goes_not (Err r) n f h e = cc
 

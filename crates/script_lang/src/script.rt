@@ -1,7 +1,7 @@
 // A script as it was read.
-ghost use Rattle.std.specs.Prelude.{◌≡◌, ◌<◌, IfOk, slice_get, length, Some};
+ghost use Rattle.std.specs.{Prelude.◌≡◌, Prelude.◌≤◌, Prelude.◌<◌, Prelude.IfOk, Prelude.slice_get, Prelude.length, Prelude.Some, Option.option_map};
 ghost use Rattle.service_calls.specs.Meanings.{model_request};
-ghost use Rattle.owner_space.specs.Naming.{names_by};
+ghost use Rattle.owner_space.specs.{Naming.names_by, Owners.owners_in};
 ghost use Rattle.script_lang.specs.{Commands.key_id_of, Commands.request_of, Fields.room_at};
 
 use crate::commands::ScriptCommand;
@@ -164,6 +164,18 @@ impl Script {
         ensures { result.now ≡ self.now.lines }
     {
         self.lines.as_slice()
+    }
+
+    /// The owner of a session, 0 to 15, where a line states one of any session.
+    pub fn owner(&self, session: u8) -> Option<u8>
+        requires first { 1 ≤ session }
+        requires last { session ≤ 16 }
+        ensures { result ≡ option_map (λ owners. owners_in owners session) self.now.owners }
+    {
+        match &self.owners {
+            Some(owners) => Some(owners[usize::from(session) - 1].number()),
+            None => None,
+        }
     }
 
     /// How the sessions name keys: each as its owner does, where a line states an owner, and else as the store does.

@@ -14,7 +14,7 @@ returns-in-Ok-replies-clause-ends g c = λ given named.
     let a = MatchResult-at_ok _ _ c.in-Ok-replies.replies c.in-Ok-replies.is c.answer_lines-run.ensures in
     let text = λ (k : Replies). k.text.items in
     let answered = subst (λ ls. AreAnswered g.D.Disk g.A.Devices g.C.Admission c.args.disk c.args.devices labels seed (names_by c.in-Ok.script.owners) workers ls a.replies ran.disk ran.devices) c.lines.ensures
-        (subst (λ n. AreAnswered g.D.Disk g.A.Devices g.C.Admission c.args.disk c.args.devices labels seed n workers c.lines.result.now a.replies ran.disk ran.devices) c.names.ensures a.answered) in
+    (subst (λ n. AreAnswered g.D.Disk g.A.Devices g.C.Admission c.args.disk c.args.devices labels seed n workers c.lines.result.now a.replies ran.disk ran.devices) c.names.ensures a.answered) in
     let written = subst (λ t. IsWritten t (g.K.Sink.taken c.args.sink.now) (g.K.Sink.taken c.write_replies.new.sink) c.write_replies.result) (ap (flat_map text) c.deref.ensures.value ∙ a.all.text) c.write_replies.ensures.written in
     rw (e.disk, e.devices, e.exit)
     (answered_ends g.D.Disk g.A.Devices g.C.Admission given left c.args.disk c.args.devices (commands.Run c.args.options.now) ran.disk ran.devices c.write_replies.result _ _ a.replies
@@ -28,7 +28,7 @@ returns-clause-ends g c = λ given named.
     let labels = g.C.Admission.labels c.args.rules in let seed = c.args.options.now.seed in
     let u = MatchResult-at_err _ _ c.in-Err-replies.why c.in-Err-replies.is c.answer_lines-run.ensures in
     let unanswered = subst (λ ls. IsUnanswered g.D.Disk g.A.Devices g.C.Admission c.args.disk c.args.devices labels seed (names_by c.in-Ok.script.owners) ls c.in-Err-replies.why ran.disk ran.devices) c.lines.ensures
-        (subst (λ n. IsUnanswered g.D.Disk g.A.Devices g.C.Admission c.args.disk c.args.devices labels seed n c.lines.result.now c.in-Err-replies.why ran.disk ran.devices) c.names.ensures u) in
+    (subst (λ n. IsUnanswered g.D.Disk g.A.Devices g.C.Admission c.args.disk c.args.devices labels seed n c.lines.result.now c.in-Err-replies.why ran.disk ran.devices) c.names.ensures u) in
     rw (e.disk, e.devices, e.exit, c.unanswered.ensures)
     (of_unanswered g.D.Disk g.A.Devices g.C.Admission given left c.args.disk c.args.devices (commands.Run c.args.options.now) ran.disk ran.devices labels seed c.in-Err-replies.why _ _ c.in-Ok.script
     named refl c.in-Ok.ensures.calls unanswered)
