@@ -25,11 +25,12 @@ more_bits bits byte count bytes here are = (forth, back)
         let zero_byte : byte ≡ 0 = sym here ∙ all count (omega arith) in
         ap (λ n. bit_or n byte) none ∙ ap (bit_or 0) zero_byte
 
-pub all_zeros : (bits : ℕ) (bytes : List ℕ) → AreBitsOf bits (length bytes) bytes → (bits ≡ 0) ↔ (bytes ≡ replicate (length bytes) 0)
-all_zeros bits bytes are = (forth, back)
+pub all_zeros : (bits count : ℕ) (bytes : List ℕ) → count ≡ length bytes → AreBitsOf bits count bytes → (bits ≡ 0) ↔ (bytes ≡ replicate (length bytes) 0)
+all_zeros bits count bytes whole are = (forth, back)
   where
     forth : bits ≡ 0 → bytes ≡ replicate (length bytes) 0
-    forth none = ext_get_or 0 bytes (replicate (length bytes) 0) (sym (length-replicate (length bytes) 0)) (λ i within. are.0 none i within ∙ sym (get_or-replicate (length bytes) i 0 0 within))
+    forth none = ext_get_or 0 bytes (replicate (length bytes) 0) (sym (length-replicate (length bytes) 0))
+        (λ i within. are.0 none i (omega (arith, within, whole)) ∙ sym (get_or-replicate (length bytes) i 0 0 within))
 
     back : bytes ≡ replicate (length bytes) 0 → bits ≡ 0
-    back zeros = are.1 (λ i within. ap (λ (list : List ℕ). get_or list i 0) zeros ∙ get_or-replicate (length bytes) i 0 0 within)
+    back zeros = are.1 (λ i within. ap (λ (list : List ℕ). get_or list i 0) zeros ∙ get_or-replicate (length bytes) i 0 0 (omega (arith, within, whole)))

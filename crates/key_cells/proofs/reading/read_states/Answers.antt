@@ -74,7 +74,7 @@ loop-cell-preserved-then-blank g c =
     let told = d.contents c.args.disk.now in
     let lt : cell < length states = omega (arith, i.count) in
     let block = rw i.calm.same at c.in-Ok.ensures.bytes in
-    let blank = c.in-Ok.ensures.zeros refl in
+    let blank = c.in-Ok.ensures.zeros c.if-blank.true in
     let same = stays_free cell states (i.unread cell (omega arith)) in
     record {
       size = e.size ∙ i.size;
