@@ -1,5 +1,5 @@
 -- That an opening leaves a whole store.
-use Rattle.key_cells.proofs.Common.{[], Absent, CellState, Content, Finds, Free, HasNoOpenCell, HasZeros, IfSome, IsFoundIn, List, None, Open, Option, Present, Shows, Some, Sound, StandsForContents, ap, arith, body, cases_lt, cell_count, cell_state, cells_of, closed, drop-replicate, found_in, gate, get_or-replicate, inl, inr, length, opened_gate, part, place, refl, replicate, store_size, subst, sym, take, zeros, ℕ, ⊎_elim, ◌-◌, ◌<◌, ◌∙◌, ◌∷◌, ◌≡◌, ◌⊎◌}
+use Rattle.key_cells.proofs.Common.{[], Absent, CellState, Content, Finds, Free, HasNoOpenCell, HasZeros, IfSome, IsFoundIn, List, None, Open, Option, Present, Shows, Some, Sound, StandsForContents, ap, arith, body, cases_lt, cell_count, cell_state, cells_of, closed, drop-replicate, found_in, gate, get_or-replicate, inl, inr, length, opened_gate, part, place, refl, replicate, store_size, subst, sym, take, zeros, ℕ, ⊎_elim, ◌-◌, ◌<◌, ◌∙◌, ◌∷◌, ◌≡◌}
 use Rattle.std.proofs.{Common.suc, Common.zero}
 use Rattle.disk_face.specs.declared.Disk as Disk
 unfoldable use Rattle.key_cells.specs.Layout.{header}

@@ -1,4 +1,4 @@
-use Rattle.key_cells.proofs.{Common.arith, Common.length, Common.on_ok_weaker, Common.◌*◌, Common.◌+◌, Common.◌∙◌, Common.◌≡◌, CellsRead.gives_part}
+use Rattle.key_cells.proofs.{Common.arith, Common.◌*◌, Common.◌+◌, Common.◌∙◌, Common.◌≡◌, CellsRead.gives_part}
 use Rattle.std.specs.Prelude.{◌/◌}
 use Rattle.key_cells.proofs.reading.read_block.Goals as goal
 
