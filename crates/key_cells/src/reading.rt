@@ -7,16 +7,32 @@ ghost use Rattle.key_cells.specs.{Contents.is_open, Image.IsStoreFile, Image.IsS
 
 use crate::CellState;
 use crate::body::{is_zero, read_key};
-use crate::cells::{CLOSED, OPENED, place};
+use crate::cells::{CLOSED, CLOSED_CELL, OPENED, place};
 use crate::directory::Directory;
 use crate::layout::{Layout, read_layout};
 use disk_face::Disk;
 use key_attributes::Attributes;
-use psa_status::Failed;
+use psa_status::{Failed, Memory};
 use secret_bytes::{let_go, let_zeros_go};
+use std::alloc::Global;
 
 // So many cells are read at once.
 const BLOCK: usize = 256;
+
+/// Room for a block, all zeros; `Memory` where there is none.
+pub fn block_room(alloc: Global) -> Result<Vec<u8>, Memory>
+    ensures { IfOk result (λ block. length block.items ≡ 278528) }
+{
+    let Ok(mut block) = Vec::with_capacity(alloc, BLOCK * CLOSED_CELL.len()) else {
+        return Err(Memory);
+    };
+    for _ in 0..BLOCK {
+        let Ok(()) = block.extend_from_slice(&CLOSED_CELL) else {
+            return Err(Memory);
+        };
+    }
+    Ok(block)
+}
 
 /// Lets the room for a block go, which is zeros then: they aren't written where it is blank.
 pub fn let_block_go(block: Vec<u8>) {
