@@ -10,7 +10,7 @@ pub use Rattle.key_cells.specs.{Image.HasHeader, Image.HasKey, Image.HasNoOpenCe
 unfoldable pub use Rattle.key_cells.specs.Image.{identifier_in}
 pub use Rattle.key_cells.specs.Layout.{HasSize, body, cell_count, cells_by, cells_of, closed, gate, layout_by, layout_of, no_more, older_cell_count, older_size, opened_gate, part, place, store_name, store_size}
 unfoldable pub use Rattle.key_cells.specs.Layout.{header, zeros}
-pub use Rattle.key_cells.specs.Opening.{AreFreeFrom, Clearing, ClearsOn, content_in, content_of, frame_of, Finds, found_in, GivesBlock, GivesPart, HasOneEach, is_opened, IsBadCell, IsFoundIn, IsImageDirectory, IsNamed, IsNumbered, IsSettled, Reads, ReadsBelow, ReadsCell, ReadsKey, Spares, WithinSpares}
+pub use Rattle.key_cells.specs.Opening.{AreFreeFrom, Clearing, ClearsOn, content_in, content_of, frame_of, Finds, found_in, GivesBlock, GivesPart, HasOneEach, is_opened, IsBadCell, IsBlank, IsFoundIn, IsImageDirectory, IsNamed, IsNumbered, IsSettled, Reads, ReadsBelow, ReadsCell, ReadsKey, Spares, WithinSpares}
 unfoldable pub use Rattle.key_cells.specs.Opening.{contents_of}
 pub use Rattle.key_cells.specs.{declared.state.CellState.TheVariants.Free, declared.state.CellState.TheVariants.Open, declared.state.CellState.TheVariants.Shut, declared.state.CellState.TheVariants.Unsure, Opened.Calm, Opened.HoldsSinceSync, Opened.IsBlankSinceSync, Opened.IsOpened, Opened.IsOpeningRefused, Opened.SparesSinceSync, Opened.WritesItsOwn}
 pub use Rattle.key_record.specs.Record.{IsKept, IsLength, IsNoLength, IsNoRecord, IsRecord, spelling}

@@ -1,5 +1,5 @@
 -- What keeps a directory: its row of open cells, and its counts.
-use Rattle.key_cells.proofs.Common.{[], ap, arith, Bool, cases_eq, cases_lt, cell_count, cell_state, CellState, cond, count_by, drop, eq-eqb, false, Free, get_or, get_or-replicate, get_or-set_other, get_or-set_same, has_id, HasNoKey, HasOneEach, is_open, length, length-replicate, length-set, List, Open, refl, replicate, set, settled_state, settled_states, Shut, subst, suc, sum_by-cons, sym, true, Unsure, zero, ℕ, ⊎_elim, ◌*◌, ◌+◌, ◌-◌, ◌<◌, ◌==◌, ◌^◌, ◌∙◌, ◌∷◌, ◌≡◌, ◌≢◌, ◌≤◌, ◌⊎◌}
+use Rattle.key_cells.proofs.Common.{[], ap, arith, Bool, cases_eq, cases_lt, cell_count, cell_state, CellState, cond, count_by, drop, eq-eqb, false, Free, get_or, get_or-replicate, get_or-set_other, get_or-set_same, has_id, HasNoKey, HasOneEach, is_open, length, length-replicate, length-set, List, Open, refl, replicate, set, settled_state, settled_states, Shut, subst, suc, sum_by-cons, sym, true, Unsure, zero, ℕ, ⊎_elim, ◌*◌, ◌+◌, ◌-◌, ◌<◌, ◌==◌, ◌^◌, ◌∙◌, ◌∷◌, ◌≡◌, ◌≢◌, ◌≤◌}
 use Rattle.std.proofs.{lemmas.Bool.ne_eqb, lemmas.List.get_or_past, lemmas.List.Recursion.is_count_by, lemmas.List.Sorted.IsPermutation-sym, lemmas.List.Sorted.length_permutation, lemmas.List.Sorted.sum_by-IsPermutation, lemmas.List.Sums.count_by-le-length, lemmas.List.Sums.get_or-le-sum_by, lemmas.List.Sums.sum_by-set, lemmas.Bool.Decides.nat_tests}
 use Rattle.std.specs.{List.sum_by, Prelude.◌/◌}
 use Rattle.key_index.specs.{Index.is_between, Index.IsAlone, Index.IsIndexOf, Index.entries_of, declared.index.Entry.Entry}

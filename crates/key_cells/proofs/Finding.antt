@@ -1,5 +1,5 @@
 -- What the states are that an opening reads, one cell after the other.
-use Rattle.key_cells.proofs.Common.{[], ap, AreFreeFrom, arith, body, Bool, cases_eq, cases_lt, cell_state, cells_of, CellState, closed, cond, count_by, count_by_more_no, count_by_more_yes, creation_of_state, DamagedCell, drop, eq-eqb, eqb-true, false, Free, gate, get_or, get_or-replicate, get_or-set_other, get_or-set_same, GivesPart, has_id, HasNoKey, HasOneEach, HoldsId, HoldsNoKey, identifier_in, IfSome, inl, inr, is_open, IsBadCell, IsDamaged, IsNamed, IsNumbered, IsOpen, IsOpenFaultOf, IsPersistent, IsStoreFile, length, length-set, List, None, Open, opened_gate, Option, Reads, ReadsBelow, refl, replicate, set, Shut, Some, subst, sym, take, take-set-le, true, Unsure, ℕ, ⊎_elim, ◌*◌, ◌+◌, ◌<◌, ◌∙◌, ◌∷◌, ◌≡◌, ◌≢◌, cell_count}
+use Rattle.key_cells.proofs.Common.{[], ap, AreFreeFrom, arith, body, Bool, cases_eq, cases_lt, cell_state, cells_of, CellState, closed, cond, count_by, count_by_more_no, count_by_more_yes, creation_of_state, DamagedCell, drop, eq-eqb, eqb-true, false, Free, gate, get_or, get_or-replicate, get_or-set_other, get_or-set_same, GivesPart, has_id, HasNoKey, HasOneEach, HoldsId, HoldsNoKey, identifier_in, IfSome, inl, inr, is_open, IsBadCell, IsDamaged, IsNamed, IsNumbered, IsOpen, IsOpenFaultOf, IsPersistent, IsStoreFile, length, length-set, List, None, Open, opened_gate, Option, Reads, ReadsBelow, refl, replicate, set, set-get_or, Shut, Some, subst, sym, take, take-set-le, true, Unsure, ℕ, ⊎_elim, ◌*◌, ◌+◌, ◌<◌, ◌∙◌, ◌∷◌, ◌≡◌, ◌≢◌, cell_count}
 use Rattle.key_cells.proofs.{Bodies.parts_of, CellsRead.gate_read, CellsRead.body_read}
 use Rattle.std.proofs.lemmas.List.{get_or_past}
 
@@ -24,6 +24,10 @@ reads_more (Some image) count states state bytes lt below gives reads = λ cell 
   where
     here : Reads state (gate count image) (body count image)
     here = subst (λ (b : List ℕ). Reads state (gate count image) b) (ap (drop 1) gives ∙ body_read count image) (subst (λ (g : List ℕ). Reads state g (drop 1 bytes)) (ap (take 1) gives ∙ gate_read count image) reads)
+
+-- a cell that is free stays so
+pub stays_free : (cell : ℕ) (states : List CellState) → cell_state states cell ≡ Free → set states cell Free ≡ states
+stays_free cell states free = ap (set states cell) (sym free) ∙ set-get_or states cell Free
 
 -- the cells that aren't read yet are as in a new directory
 

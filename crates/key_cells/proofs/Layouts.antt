@@ -9,7 +9,7 @@ byte_at [] i lt = absurd (omega (arith, lt))
 byte_at (x ∷ xs) zero lt = refl
 byte_at (x ∷ xs) (suc i) lt = byte_at xs i (omega (arith, lt))
 
-pub cells_whole : (l : Layout) → cells_by l % 64 ≡ 0
+pub cells_whole : (l : Layout) → cells_by l % 256 ≡ 0
 cells_whole Older = refl
 cells_whole Current = refl
 

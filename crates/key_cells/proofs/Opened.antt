@@ -1,7 +1,7 @@
 -- How the parts of an opening follow one another.
-use Rattle.key_cells.proofs.Common.{[], Absent, AreFreeFrom, ap, arith, body, cases_lt, cells_by, cells_of, frame_of, Frame, HoldsSameKeys, HasSize, HasZerosWhereClosed, IsStoreOf, layout_by, layout_of, older_size, Opens, part, Bool, Calm, cell_state, cell_count, CellState, Clearing, closed, cond, Content, content_of, contents_of, count_by, creation_of_state, DamagedCell, Disk, drop-replicate, Elapses, false, Finds, found_in, Free, gate, get_or, get_or-map, get_or-replicate, has_id, HasNoOpenCell, HasOneEach, HoldsSinceSync, IfSome, inl, inr, is_open, is_opened, is_some, IsBlankSinceSync, IsDisk, IsFoundIn, IsImageDirectory, IsNamed, IsNumbered, IsOpen, IsOpened, IsOpenFaultOf, IsOpeningRefused, IsRefusal, IsStoreFile, LeavesWhatIsRead, length, length-map, List, map, nil_from_length, None, NoNewImage, NotAStore, Open, opened_gate, Option, place, Present, Reads, ReadsBelow, refl, replicate, settled_state, settled_states, Shut, Some, SoundBy, Spares, SparesSinceSync, SparesStore, StandsForContents, StillTells, subst, sum_by-cons, sym, take, take-map, true, Unsure, Within, within_both, within_none, within_one, WithinSpares, WritesItsOwn, zeros, ℕ, ⊎_elim, ◌+◌, ◌-◌, ◌<◌, ◌∙◌, ◌∷◌, ◌≡◌, ◌≢◌, ◌≤◌, ◌⊎◌, store_size}
+use Rattle.key_cells.proofs.Common.{[], Absent, AreFreeFrom, ap, arith, body, cases_lt, cells_by, cells_of, frame_of, Frame, HoldsSameKeys, HasSize, HasZerosWhereClosed, IsStoreOf, layout_by, layout_of, older_size, Opens, part, Bool, Calm, cell_state, cell_count, CellState, Clearing, closed, cond, Content, content_of, contents_of, count_by, creation_of_state, DamagedCell, Disk, Elapses, false, Finds, found_in, Free, gate, get_or, get_or-map, get_or-replicate, has_id, HasNoOpenCell, HasOneEach, HoldsSinceSync, IfSome, inl, inr, is_open, is_opened, is_some, IsBlankSinceSync, IsDisk, IsFoundIn, IsImageDirectory, IsNamed, IsNumbered, IsOpen, IsOpened, IsOpenFaultOf, IsOpeningRefused, IsRefusal, IsStoreFile, LeavesWhatIsRead, length, length-map, List, map, nil_from_length, None, NoNewImage, NotAStore, Open, opened_gate, Option, Present, Reads, ReadsBelow, refl, replicate, settled_state, settled_states, Shut, Some, SoundBy, Spares, SparesSinceSync, SparesStore, StandsForContents, StillTells, subst, sum_by-cons, sym, take, take-map, true, Unsure, Within, within_both, within_none, within_one, WithinSpares, WritesItsOwn, zeros, ℕ, ⊎_elim, ◌+◌, ◌<◌, ◌∙◌, ◌∷◌, ◌≡◌, ◌≢◌, ◌≤◌, ◌⊎◌, store_size}
 use Rattle.disk_face.specs.declared.Disk as Disk
-use Rattle.std.proofs.{Common.ne_eqb, Common.suc, Common.zero, lemmas.List.get_or_past}
+use Rattle.std.proofs.{Common.ne_eqb, lemmas.List.get_or_past}
 unfoldable use Rattle.key_cells.specs.Layout.{blank_store}
 use Rattle.psa_status.specs.Causes.{Rose}
 use Rattle.key_cells.specs.{declared.reading.OpenFault.OpenFault, declared.layout.Layout.Layout, declared.layout.Layout.TheVariants.Older, declared.layout.Layout.TheVariants.Current, Image.IsOpenable, Image.IsWhole, Opened.IsOpenedFile, Opened.KeepsKeysSinceSync}

@@ -1,10 +1,10 @@
 -- That an opening leaves a whole store.
-use Rattle.key_cells.proofs.Common.{[], Absent, CellState, Content, Finds, Free, HasNoOpenCell, HasZeros, IfSome, IsFoundIn, IsImageDirectory, IsOpen, List, None, Open, Option, Present, Shows, Some, Sound, StandsForContents, ap, arith, body, cases_lt, cell_count, cell_state, cells_of, closed, drop-replicate, found_in, gate, get_or-replicate, inl, inr, length, opened_gate, part, place, refl, replicate, store_size, subst, sym, take, zeros, ℕ, ⊎_elim, ◌-◌, ◌<◌, ◌∙◌, ◌∷◌, ◌≡◌, ◌≤◌, ◌⊎◌}
+use Rattle.key_cells.proofs.Common.{[], Absent, CellState, Content, Finds, Free, HasNoOpenCell, HasZeros, IfSome, IsFoundIn, List, None, Open, Option, Present, Shows, Some, Sound, StandsForContents, ap, arith, body, cases_lt, cell_count, cell_state, cells_of, closed, drop-replicate, found_in, gate, get_or-replicate, inl, inr, length, opened_gate, part, place, refl, replicate, store_size, subst, sym, take, zeros, ℕ, ⊎_elim, ◌-◌, ◌<◌, ◌∙◌, ◌∷◌, ◌≡◌}
 use Rattle.std.proofs.{Common.suc, Common.zero}
 use Rattle.disk_face.specs.declared.Disk as Disk
 unfoldable use Rattle.key_cells.specs.Layout.{header}
 use Rattle.key_cells.specs.{declared.layout.Layout.TheVariants.Current, Contents.content_at, Image.IsOpenable, Image.IsStoreOf, Image.IsWhole, Opening.content_of}
-use Rattle.key_cells.proofs.{CellsRead.content_beyond, CellsRead.content_there, CellsRead.content_within, Keeping.cells_most, Layouts.is_store}
+use Rattle.key_cells.proofs.{CellsRead.content_there, CellsRead.content_within, Keeping.cells_most, Layouts.is_store}
 
 pub no_open_zeros : (n : ℕ) → HasNoOpenCell (replicate n 0)
 no_open_zeros n cell lt is = by (n - place cell) (ap (take 1) (sym (drop-replicate (place cell) n 0)) ∙ is)

@@ -141,6 +141,19 @@ impl Directory {
         self.full[group] = fills(&self.states, group, state);
     }
 
+    /// Sets what is known of a cell that is free so far. Nothing is done where it stays so.
+    pub(crate) fn note(&mut self, cell: usize, state: CellState)
+        requires within { cell < cell_count }
+        requires free { cell_state self.old cell ≡ Free }
+        requires new { (id : ℕ) → has_id id state ≡ true → HasNoKey self.old id }
+        ensures { self.new ≡ set self.old cell state }
+    {
+        match state {
+            CellState::Free => {}
+            _ => self.set(cell, state),
+        }
+    }
+
     /// The cell of the key of this identifier.
     pub fn find(&self, id: u32) -> Option<usize>
         ensures { MatchOption result (HasNoKey self.now id) (λ cell. IsFirstWithKey self.now id cell) }

@@ -125,7 +125,7 @@ fn read_keys(alloc: Global, image: &[u8], cells: usize) -> Result<Vec<FoundKey>,
             return Err(InspectFault::DamagedCell { cell });
         };
         keep_key(alloc, &mut keys, room, &read)?;
-        states.set(cell, read.state);
+        states.note(cell, read.state);
     }
     Ok(keys)
 }

@@ -3,19 +3,46 @@ ghost use Rattle.std.specs.Prelude.{◌≡◌, ◌≢◌, ◌≤◌, drop, false
 ghost use Rattle.psa_status.specs.Causes.{HasCause, Rose};
 ghost use Rattle.disk_face.specs.Disk.{NoNewImage, Elapses};
 ghost use Rattle.key_cells.specs.declared.state.CellState.TheVariants.{Free};
-ghost use Rattle.key_cells.specs.{Contents.is_open, Image.IsStoreFile, Image.IsStoreOf, Opening.AreFreeFrom, Opening.GivesBlock, Opening.GivesPart, Opening.IsBadCell, Opening.Reads, Opening.ReadsCell, Opening.ReadsKey, Opening.ReadsBelow, Opening.HasOneEach, Opening.IsNumbered, Opening.IsNamed, Causes.IsOpenFaultOf, Causes.IsDisk, Opened.Calm, Layout.HasSize, Layout.opened_gate, Layout.older_size, Layout.part, Layout.place, Layout.cell_count, Layout.cells_by, Layout.cells_of, Layout.store_size};
+ghost use Rattle.key_cells.specs.{Contents.is_open, Image.IsStoreFile, Image.IsStoreOf, Opening.AreFreeFrom, Opening.GivesBlock, Opening.GivesPart, Opening.IsBlank, Opening.IsBadCell, Opening.Reads, Opening.ReadsCell, Opening.ReadsKey, Opening.ReadsBelow, Opening.HasOneEach, Opening.IsNumbered, Opening.IsNamed, Causes.IsOpenFaultOf, Causes.IsDisk, Opened.Calm, Layout.HasSize, Layout.opened_gate, Layout.older_size, Layout.part, Layout.place, Layout.cell_count, Layout.cells_by, Layout.cells_of, Layout.store_size};
 
 use crate::CellState;
 use crate::body::{is_zero, read_key};
-use crate::cells::{CLOSED, OPENED, place};
+use crate::cells::{CLOSED, CLOSED_CELL, OPENED, place};
 use crate::directory::Directory;
 use crate::layout::{Layout, read_layout};
 use disk_face::Disk;
 use key_attributes::Attributes;
-use psa_status::Failed;
+use psa_status::{Failed, Memory};
+use secret_bytes::{let_go, let_zeros_go};
+use std::alloc::Global;
 
 // So many cells are read at once.
-const BLOCK: usize = 64;
+const BLOCK: usize = 256;
+
+/// Room for a block, all zeros; `Memory` where there is none.
+pub fn block_room(alloc: Global) -> Result<Vec<u8>, Memory>
+    ensures { IfOk result (λ block. length block.items ≡ 278528) }
+{
+    let Ok(mut block) = Vec::with_capacity(alloc, BLOCK * CLOSED_CELL.len()) else {
+        return Err(Memory);
+    };
+    for _ in 0..BLOCK {
+        let Ok(()) = block.extend_from_slice(&CLOSED_CELL) else {
+            return Err(Memory);
+        };
+    }
+    Ok(block)
+}
+
+/// Lets the room for a block go, which is zeros then: they aren't written where it is blank.
+pub fn let_block_go(block: Vec<u8>) {
+    if is_zero(&block) {
+        let count = block.len();
+        let_zeros_go(block, count);
+    } else {
+        let_go(block);
+    }
+}
 
 /// Reads the bytes of a cell.
 pub fn read_cell<D: Disk>(disk: &mut D, cell: usize, bytes: &mut [u8; 1088]) -> Result<(), Failed>
@@ -39,23 +66,32 @@ pub fn cell_at(bytes: &[u8], place: usize) -> &[u8; 1088]
     bytes[place..].first_chunk().unwrap()
 }
 
-// Reads a block of cells, where one begins with this cell; else its block has been read.
+// Reads a block of cells, where one begins with this cell, and tells whether it is all zeros; else its block has been read,
+// and that is known.
 #[tactic(auto, using(crate::proofs::Opened::calm_none, crate::proofs::Opened::calm_one))]
-fn read_block<D: Disk>(disk: &mut D, cell: usize, block: &mut [u8]) -> Result<(), Failed>
+fn read_block<D: Disk>(
+    disk: &mut D,
+    cell: usize,
+    block: &mut [u8],
+    blank: bool,
+) -> Result<bool, Failed>
     requires within { cell < cell_count }
-    requires size { cell % 64 ≡ 0 → place cell + 69632 ≤ D.size disk.old }
-    requires room { length block.old ≡ 69632 }
-    requires read { cell % 64 ≢ 0 → GivesBlock (D.contents disk.old) cell block.old }
+    requires size { cell % 256 ≡ 0 → place cell + 278528 ≤ D.size disk.old }
+    requires room { length block.old ≡ 278528 }
+    requires read { cell % 256 ≢ 0 → GivesBlock (D.contents disk.old) cell block.old }
+    requires zeros { cell % 256 ≢ 0 → IsTrue blank → IsBlank block.old }
     ensures bytes { OnOk result (GivesBlock (D.contents disk.old) cell block.new) }
-    ensures room { length block.new ≡ 69632 }
+    ensures zeros { IfOk result (λ blank. IsTrue blank → IsBlank block.new) }
+    ensures room { length block.new ≡ 278528 }
     ensures size { D.size disk.new ≡ D.size disk.old }
     ensures calm { Calm D.Disk disk.old disk.new }
     ensures cause { HasCause (D.faults disk.old) (D.faults disk.new) result }
 {
-    if cell % BLOCK == 0 {
-        return disk.read_at(place(cell), block);
+    if cell % BLOCK != 0 {
+        return Ok(blank);
     }
-    Ok(())
+    disk.read_at(place(cell), block)?;
+    Ok(is_zero(block))
 }
 
 /// What the bytes of a cell say: its state, and where it is open its key, by the attributes and the end of the bytes.
@@ -159,7 +195,7 @@ pub fn read_store<D: Disk>(
     requires size { D.size disk.old ≡ size }
     requires enough { older_size ≤ size }
     requires states { states.old ≡ replicate cell_count Free }
-    requires room { length block.old ≡ 69632 }
+    requires room { length block.old ≡ 278528 }
     ensures fits { IfOk result (λ layout. HasSize layout size) }
     ensures store { IfOk result (λ layout. IfSome (D.contents disk.old) (IsStoreOf layout)) }
     ensures read { IfOk result (λ layout. IfSome (D.contents disk.old) (ReadsBelow (cells_by layout) states.new)) }
@@ -184,7 +220,7 @@ pub fn read_store<D: Disk>(
     Ok(layout)
 }
 
-// Reads the cells of a store, each block of them at once.
+// Reads the cells of a store, each block of them at once. Of one that is all zeros each cell stays free.
 #[tactic(auto, using(crate::proofs::Opened::calm_none, crate::proofs::Opened::calm_one, crate::proofs::Opened::calm_both))]
 fn read_states<D: Disk>(
     disk: &mut D,
@@ -193,10 +229,10 @@ fn read_states<D: Disk>(
     block: &mut [u8],
 ) -> Result<(), OpenFault>
     requires size { place cells ≤ D.size disk.old }
-    requires whole { cells % 64 ≡ 0 }
+    requires whole { cells % 256 ≡ 0 }
     requires few { cells ≤ cell_count }
     requires states { states.old ≡ replicate cell_count Free }
-    requires room { length block.old ≡ 69632 }
+    requires room { length block.old ≡ 278528 }
     requires store { IfSome (D.contents disk.old) (λ image. IsStoreFile image × (cells_of image ≡ cells)) }
     ensures read { OnOk result (IfSome (D.contents disk.old) (ReadsBelow cells states.new)) }
     ensures beyond { OnOk result (AreFreeFrom cells states.new) }
@@ -210,17 +246,21 @@ fn read_states<D: Disk>(
     ensures disk { IfErr result (λ fault. IsDisk fault → Rose (D.faults disk.old) (D.faults disk.new)) }
 {
     let mut found = 0;
+    let mut blank = false;
     for cell in 0..cells {
-        match read_block(disk, cell, block) {
-            Ok(()) => {}
+        blank = match read_block(disk, cell, block, blank) {
+            Ok(blank) => blank,
             Err(Failed) => return Err(OpenFault::Disk),
+        };
+        if blank {
+            continue;
         }
         let bytes = cell_at(block, 1088 * (cell % BLOCK));
         let Some(read) = decode(bytes, states, found) else {
             return Err(OpenFault::DamagedCell { cell });
         };
         found = counted(found, &read.state);
-        states.set(cell, read.state);
+        states.note(cell, read.state);
     }
     Ok(())
 }

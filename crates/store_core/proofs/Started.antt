@@ -1,12 +1,12 @@
 -- A store that was opened stands for a start, before any call.
-use Rattle.store_core.proofs.Common.{[], AdmissionGhosts, Agrees, ap, AreFound, AreHoldings, AreOpened, arith, Attributes, Bool, cell_state, CellState, count_by, count_by-le-length, count_persistent, DevicesGhosts, DiskGhosts, durable_keys, empty_ones, empty_slot, false, false≢true, for_told, found_in, HasKey, HasOneEach, HeldKeys, HoldsKeys, IfSome, is_opaque, is_open, is_some, is_volatile, is_volatile_of, IsDirectory, IsHolding, IsNumbered, IsOpened, IsOpeningRefused, IsStart, IsVolatileKey, KeepsKeys, Key, KeyFile, Keys, Lacks, length, length-replicate, List, live_volatile, lt-ltb, map_get, Memory, Model, nat_lt, None, of_volatile, Open, OpenedKey, Opening, opening_of, Option, Pairs, refl, replicate, Service, Settings, slice_get, slice_index, slice_index_or, Some, some_weaker, Sound, stands_fits, StandsFor, StandsForContents, StandsForKeys, start_of, Store, subst, suc, sym, true, zero, ℕ, ◌+◌, ◌↔◌, ◌∙◌, ◌≡◌, ◌≤◌, service_of, cell_count}
+use Rattle.store_core.proofs.Common.{[], AdmissionGhosts, Agrees, ap, AreFound, AreHoldings, AreOpened, arith, Attributes, Bool, CellState, count_by, count_by-le-length, count_persistent, DevicesGhosts, DiskGhosts, durable_keys, empty_ones, empty_slot, false, false≢true, for_told, found_in, HasKey, HeldKeys, HoldsKeys, IfSome, is_opaque, is_open, is_some, is_volatile, is_volatile_of, IsDirectory, IsHolding, IsOpened, IsOpeningRefused, IsStart, IsVolatileKey, KeepsKeys, Key, KeyFile, Keys, Lacks, length, length-replicate, List, live_volatile, lt-ltb, map_get, Memory, Model, nat_lt, None, of_volatile, Open, OpenedKey, Opening, opening_of, Option, Pairs, refl, replicate, Service, Settings, slice_get, slice_index, slice_index_or, Some, some_weaker, Sound, stands_fits, StandsFor, StandsForContents, StandsForKeys, start_of, Store, subst, suc, sym, true, zero, ℕ, ◌+◌, ◌↔◌, ◌∙◌, ◌≡◌, ◌≤◌, service_of, cell_count}
 use Rattle.std.proofs.lemmas.List.Elements.{All-replicate}
 use Rattle.key_cells.proofs.Opened.{calm_none, refused_calm}
 use Rattle.persistent_keys.proofs.Founding.{found_stands}
 use Rattle.store_model.proofs.Starts.{all_counted, store_starts}
 use Rattle.store_model.specs.{declared.limits.Limits.Limits, Prelude.HaveRoom, Prelude.is_in_range, Prelude.is_low, Prelude.is_per_range}
 use Rattle.store_core.specs.{Limits.HasRoom, declared.store.Opened.Opened}
-use Rattle.store_core.proofs.{Ranges.range_counts, FoundMap.HasEachOnce, FoundMap.AreKept, FoundMap.id_of, FoundMap.numbered, FoundMap.found_at, FoundMap.at_found, FoundMap.are_found, FoundMap.counted, Kept.lasting, Kept.local, OpenCells.placed, OpenCells.are_kept, OpenCells.each_once, OpenCells.has_own, OpenCells.some_opened, Sure.opened_sure}
+use Rattle.store_core.proofs.{Ranges.range_counts, FoundMap.HasEachOnce, FoundMap.AreKept, FoundMap.id_of, FoundMap.numbered, FoundMap.found_at, FoundMap.at_found, FoundMap.are_found, FoundMap.counted, Kept.lasting, Kept.local, OpenCells.placed, OpenCells.are_kept, OpenCells.each_once, OpenCells.some_opened, Sure.opened_sure}
 use Rattle.store_core.proofs.Openings.{told_twice, cell_key, key_found, found_key, durable_found}
 
 zero_at : (n c : ℕ) → ◌≡◌ {A = ℕ} (slice_index_or (replicate n 0) c 0) 0

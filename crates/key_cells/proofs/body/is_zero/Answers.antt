@@ -1,9 +1,10 @@
-use Rattle.key_cells.proofs.Common.{Decides-eqb, length, replicate, slice_eq-Decides, sym, take, take-replicate, ℕ, ◌∙◌, ◌≡◌}
+use Rattle.key_cells.proofs.{Common.arith, Common.eq-eqb, Common.eqb-true, Common.refl, AllZeros.all_zeros, AllZeros.more_bits}
 use Rattle.key_cells.proofs.body.is_zero.Goals as goal
+
+pub loop-byte-preserved : goal.loop-byte-preserved
+loop-byte-preserved c = more_bits c.loop-byte.bits _ c.loop-byte.byte-index c.args.bytes.now refl c.loop-byte.invariant
 
 pub returns : goal.returns
 returns c =
-    let bytes = c.args.bytes.now in
-    let zeros : take (length bytes) (replicate 1087 0) ≡ replicate {A = ℕ} (length bytes) 0 = take-replicate (length bytes) 1087 0 c.requires in
-    let decides = slice_eq-Decides Decides-eqb bytes (take (length bytes) (replicate 1087 0)) c.eq.result c.eq.ensures in
-    (λ same. decides.0 same ∙ zeros, λ are. decides.1 (are ∙ sym zeros))
+    let are = all_zeros c.loop-byte.bits c.loop-byte.byte-index c.args.bytes.now (omega arith) c.loop-byte.invariant in
+    (λ is. are.0 (eqb-true _ _ is), λ zeros. eq-eqb _ _ (are.1 zeros))

@@ -24,7 +24,7 @@ loop-cell-preserved c =
     let state = c.in-Some.read.state in
     let read = c.in-Some.ensures in
     let lt : cell < length states = omega (arith, i.count) in
-    rw c.set.ensures (record {
+    rw c.note.ensures (record {
       count = length-set states cell state ∙ i.count;
       read = reads_more (Some c.args.image.now) cell states state c.cell_at-room.result.now lt i.read (c.cell_at-room.ensures ∙ ap (λ n. part n 1088 c.args.image.now) c.place.ensures) read.0.reads;
       unread = unread_more cell states state i.unread;

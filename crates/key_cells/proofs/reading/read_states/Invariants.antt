@@ -1,5 +1,5 @@
-use Rattle.key_cells.proofs.Common.{AreFreeFrom, Calm, count_by, GivesBlock, HasOneEach, IfSome, is_open, IsNamed, IsNumbered, length, ReadsBelow, take, ◌≡◌, ◌≢◌, cell_count}
-use Rattle.std.specs.Prelude.{◌%◌}
+use Rattle.key_cells.proofs.Common.{AreFreeFrom, Calm, count_by, GivesBlock, HasOneEach, IfSome, is_open, IsBlank, IsNamed, IsNumbered, length, ReadsBelow, take, ◌≡◌, ◌≢◌, cell_count}
+use Rattle.std.specs.Prelude.{IsTrue, ◌%◌}
 use Rattle.key_cells.proofs.reading.read_states.Given as goal
 
 abbrev pub invariant-loop-cell : goal.invariant-loop-cell
@@ -7,8 +7,9 @@ invariant-loop-cell g l =
     let d = g.D.Disk in
     record {
       size : d.size l.disk ≡ d.size l.fn.disk;
-      room : length l.block ≡ 69632;
-      block : l.cell % 64 ≢ 0 → GivesBlock (d.contents l.fn.disk) l.cell l.block;
+      room : length l.block ≡ 278528;
+      block : l.cell % 256 ≢ 0 → GivesBlock (d.contents l.fn.disk) l.cell l.block;
+      zeros : l.cell % 256 ≢ 0 → IsTrue l.blank → IsBlank l.block;
       count : length l.states ≡ cell_count;
       read : IfSome (d.contents l.fn.disk) (λ image. ReadsBelow l.cell l.states image);
       unread : AreFreeFrom l.cell l.states;
