@@ -134,7 +134,14 @@ fn run_meeting<D: Disk + Send + Drop, A: Devices, C: Admission, R: Threads + Wai
     };
     let form = ReplyForm::Unranked;
     let ran = run_sessions(
-        rt, alloc, &service, &script.names(), script.lines(), 2, form, &mut callers,
+        rt,
+        alloc,
+        &service,
+        &script.names(),
+        script.lines(),
+        2,
+        form,
+        &mut callers,
     );
     let held_at = service.gate.held_at.load(Ordering::SeqCst);
     let limits = service.gate.limits.load(Ordering::SeqCst);

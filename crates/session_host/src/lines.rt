@@ -100,7 +100,14 @@ pub fn answer_lines<D: Disk + Send, A: Devices, C: Admission, R: Threads + Wait 
         }
     };
     let ran = run_sessions(
-        rt, alloc, &service, names, lines, workers, form, &mut callers,
+        rt,
+        alloc,
+        &service,
+        names,
+        lines,
+        workers,
+        form,
+        &mut callers,
     );
     let Closed {
         disk,
