@@ -12,5 +12,6 @@ pub mod Gcm
 pub mod Hmac
 pub mod Hkdf
 pub mod Pbkdf2
+pub mod KeyWrap
 pub mod Laws
 pub mod Prelude

@@ -3,7 +3,7 @@
 use Rattle.key_wrap.proofs.Common.{List, ap, append_assoc, ap₂, arith, drop, drop_at, length, sym, take, take_at, unwrap_steps, wrap_steps, xor_number, ℕ, ◌++◌, ◌+◌, ◌∙◌, ◌≡◌, ◌≤◌}
 use Rattle.key_wrap.proofs.KeyWrapLaws.{unwrap_step_of_parts, wrap_step_of_parts}
 use Rattle.key_wrap.proofs.Rotations.{comes_first, comes_last, others, turned, written_first, written_last}
-use Rattle.key_wrap.specs.KeyWrap.{unwrap_step, wrap_step}
+use Rattle.crypto_specs.specs.KeyWrap.{unwrap_step, wrap_step}
 use Rattle.std.proofs.Common.{add-one}
 use Rattle.std.proofs.lemmas.List.{length-append}
 use borrow.Rule.Slice.PartMut.{put_mid}

@@ -2,7 +2,7 @@
 use Rattle.std.proofs.Common.{Bool, List, None, Some, ap, append_assoc, ap₂, arith, bytes_eq, cond, drop, false, length, refl, replicate, suc, sym, take, true, zero, ℕ, ◌*◌, ◌++◌, ◌+◌, ◌-◌, ◌/◌, ◌<◌, ◌∙◌, ◌≡◌, ◌≤◌}
 use Rattle.std.specs.Int.{w64, to_be_bytes, byte_at, bytes_high_first}
 use Rattle.std.proofs.{lemmas.List.take_at, lemmas.List.drop_at, lemmas.List.take-append-drop, lemmas.List.take-take, lemmas.List.length-take, lemmas.List.length-drop, lemmas.List.length-append, lemmas.Slice.Eq.bytes_eq-Decides}
-use Rattle.key_wrap.specs.KeyWrap.{initial_value, xor_number, wrap_step, wrap_steps, wrap, unwrap_step, unwrap_steps, unwrap}
+use Rattle.crypto_specs.specs.KeyWrap.{initial_value, xor_number, wrap_step, wrap_steps, wrap, unwrap_step, unwrap_steps, unwrap}
 use Rattle.crypto_specs.specs.Prelude.{AreBytes, IsBlock, IsUndoneBy}
 use Rattle.crypto_specs.proofs.{XorBytes.length-xor_bytes, XorBytes.xor_bytes_twice, CipherInverseLists.HasBytes, CipherInverseLists.none_bytes, CipherInverseLists.more_bytes, CipherInverseLists.bytes_of_all, CipherInverseLists.all_of_bytes, CipherInverseLists.joined_bytes, CipherInverseLists.take_bytes, CipherInverseLists.drop_bytes, CipherInverseLists.xored_bytes}
 

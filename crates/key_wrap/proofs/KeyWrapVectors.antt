@@ -1,7 +1,7 @@
 -- Key wrap: the example of RFC 3394, section 4.1.
 use Rattle.std.proofs.Common.{List, Some, [], ap, arith, refl, sym, ℕ, ◌∙◌, ◌∷◌, ◌≡◌}
 use Rattle.crypto_specs.specs.{Field.sum_of_shifts, Prelude.power_of_x, Prelude.aes_encrypt, Prelude.aes_decrypt}
-use Rattle.key_wrap.specs.KeyWrap.{wrap_steps, wrap, unwrap}
+use Rattle.crypto_specs.specs.KeyWrap.{wrap_steps, wrap, unwrap}
 use Rattle.crypto_specs.proofs.{CipherInverseKeys.decryption_undoes, CipherInverseLists.tried_bytes, TableAes.by_table, TableAes.rounds_by, TableAes.expanded_by, TableAes.schedule_by, TableAes.encrypt_by, TableAes.table_encrypt, TableAes.encrypts_by_table}
 use Rattle.key_wrap.proofs.KeyWrapLaws.{unwrapping_undoes}
 

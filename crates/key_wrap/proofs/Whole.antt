@@ -1,6 +1,6 @@
 -- All steps: of none, of a key, and of a text with its check value.
 use Rattle.key_wrap.proofs.Common.{Bool, List, ap, ap₂, arith, drop, false, initial_value, length, length-drop, sym, take, take-append-drop, take_all, take_at, unwrap_steps, wrap_steps, ℕ, ◌*◌, ◌++◌, ◌+◌, ◌-◌, ◌/◌, ◌<◌, ◌∙◌, ◌≡◌, ◌≤◌}
-use Rattle.key_wrap.specs.KeyWrap.{unwrap, wrap}
+use Rattle.crypto_specs.specs.KeyWrap.{unwrap, wrap}
 use Rattle.std.proofs.Common.{None, Some, bytes_eq, cond}
 use Rattle.std.proofs.lemmas.Bool.{false_from_ne_true}
 use Rattle.std.proofs.lemmas.Slice.Eq.{bytes_eq-Decides}

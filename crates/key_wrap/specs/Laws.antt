@@ -1,7 +1,7 @@
 -- Laws of key wrap over a cipher e that d undoes, each on a function of src/lib.rt.
 use Rattle.std.specs.Prelude.{ℕ, ◌≤◌, ◌≡◌, List, length, Some}
 use Rattle.crypto_specs.specs.Prelude.{AreBytes, IsUndoneBy}
-use Rattle.key_wrap.specs.KeyWrap.{wrap, unwrap}
+use Rattle.crypto_specs.specs.KeyWrap.{wrap, unwrap}
 
 abbrev pub UnwrappingUndoesWrapping : Type 0
 UnwrappingUndoesWrapping =

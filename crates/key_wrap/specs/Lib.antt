@@ -1,4 +1,3 @@
-pub mod KeyWrap
 pub mod Laws
 pub mod Lengths
 pub mod Steps

@@ -1,6 +1,6 @@
 -- Where the code stands among the steps: the number a of the register A, and the row of the others.
 use Rattle.std.specs.{Prelude.ℕ, Prelude.List, Prelude.◌≡◌, Prelude.◌++◌, Int.to_be_bytes, Int.w64}
-use Rattle.key_wrap.specs.KeyWrap.{wrap_steps, unwrap_steps}
+use Rattle.crypto_specs.specs.KeyWrap.{wrap_steps, unwrap_steps}
 
 -- the register of a number, highest byte first
 unfoldable pub number_register : ℕ → List ℕ

@@ -2,7 +2,8 @@
 
 ghost use Rattle.std.specs.{Prelude.◌≡◌, Prelude.◌++◌, Prelude.◌↔◌, Prelude.IsTrue, Prelude.length};
 ghost use Rattle.crypto_specs.specs.Prelude.{number_block};
-ghost use Rattle.key_wrap.specs.{KeyWrap.initial_value, Steps.number_register};
+ghost use Rattle.crypto_specs.specs.KeyWrap.{initial_value};
+ghost use Rattle.key_wrap.specs.{Steps.number_register};
 
 use cipher_blocks::is_front;
 

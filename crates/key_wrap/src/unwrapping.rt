@@ -2,7 +2,8 @@
 
 ghost use Rattle.std.specs.{Prelude.ℕ, Prelude.List, Prelude.◌≡◌, Prelude.◌+◌, Prelude.◌*◌, Prelude.◌/◌, Prelude.◌%◌, Prelude.◌≤◌, Prelude.◌++◌, Prelude.length, Prelude.replicate, Prelude.Some, Prelude.None, Prelude.MatchBool};
 ghost use Rattle.crypto_specs.specs.Prelude.{aes_decrypt, IsKey};
-ghost use Rattle.key_wrap.specs.{KeyWrap.unwrap_step, KeyWrap.unwrap, Lengths.IsKeyDataLength, Steps.LeadBack, Steps.number_register};
+ghost use Rattle.crypto_specs.specs.KeyWrap.{unwrap_step, unwrap};
+ghost use Rattle.key_wrap.specs.{Lengths.IsKeyDataLength, Steps.LeadBack, Steps.number_register};
 
 use crate::registers::{block_of, halves_of, is_initial, register_of, set_register};
 use aes_core::AesKey;

@@ -2,7 +2,8 @@
 
 ghost use Rattle.std.specs.{Prelude.ℕ, Prelude.List, Prelude.◌≡◌, Prelude.◌+◌, Prelude.◌*◌, Prelude.◌/◌, Prelude.◌%◌, Prelude.◌≤◌, Prelude.◌++◌, Prelude.length};
 ghost use Rattle.crypto_specs.specs.Prelude.{aes_encrypt, IsKey};
-ghost use Rattle.key_wrap.specs.{KeyWrap.wrap_step, KeyWrap.wrap, Lengths.IsKeyDataLength, Steps.AreAfter, Steps.number_register};
+ghost use Rattle.crypto_specs.specs.KeyWrap.{wrap_step, wrap};
+ghost use Rattle.key_wrap.specs.{Lengths.IsKeyDataLength, Steps.AreAfter, Steps.number_register};
 
 use crate::registers::{
     INITIAL_VALUE, block_of, give_register, halves_of, register_of, set_register,

@@ -1,6 +1,6 @@
 -- What a request that doesn't succeed leaves.
-use Rattle.std.proofs.Common.{None, Option, Some, ap, arith, false, refl, slice_set, sym, true, ℕ, ◌+◌, ◌∙◌, ◌≡◌}
-use Rattle.store_model.proofs.Common.{Abort, Active, AeadSetup, After, Attributes, BadState, Call, CipherSetup, DerivationSetup, DerivationWork, HandleCall, HandleOperation, HashSetup, Held, Inactive, InputKey, MacSetup, OnAead, OnCipher, OnDerivation, OnHandle, OnHash, OnMac, OnStore, Operation, OutputKey, Own, Plain, RefusalsLeaveAll, RefusalsLeaveBuffers, RefusedSetupsLeaveAll, Served, Service, Status, Success, UnreadyHandlesStay, Work, applied, counted, input_key, is_active, is_inactive, is_setup, left_all, left_by, next_random, on_store, operation_of, output_key, own_of, refusal, serve, set_up, stepped, untouched, with_drawn, with_operation, with_own, words_used}
+use Rattle.std.proofs.Common.{List, None, Option, Some, ap, arith, false, refl, slice_set, sym, true, ℕ, ◌+◌, ◌∙◌, ◌≡◌}
+use Rattle.store_model.proofs.Common.{Abort, Active, AeadSetup, After, Attributes, BadState, Call, CipherSetup, DerivationSetup, DerivationWork, HandleCall, HandleOperation, HashSetup, Held, Inactive, InputKey, MacSetup, OnAead, OnCipher, OnDerivation, OnHandle, OnHash, OnMac, OnStore, Operation, OutputKey, UnwrapKey, WrapKey, WrapSetup, WrapWork, Own, Plain, RefusalsLeaveAll, RefusalsLeaveBuffers, RefusedSetupsLeaveAll, Served, Service, Status, Success, UnreadyHandlesStay, Work, applied, counted, input_key, is_active, is_inactive, is_setup, left_all, left_by, next_random, on_store, operation_of, output_key, unwrap_key, own_of, refusal, serve, set_up, stepped, untouched, with_drawn, with_operation, with_own, words_used}
 use Rattle.store_model.proofs.{DrawnBytes.length-random, StoreShape.store_shape, Operations.same_own, Operations.same_service, Buffers.LeavesBuffer, Served.stays_put, Served.setup_fails, Served.request_shape, Shape.shape}
 
 -- no word is drawn
@@ -40,7 +40,7 @@ own_left service caller handle call =
     shape service caller handle call (λ served. (served.reply.status ≡ Success → ⊥) → served.service ≡ left_all service caller (OnHandle handle call) served.reply.status) (record {
       untouched_too = λ same no. stays_put service caller handle (left_by call (operation_of service caller handle) BadState) same;
       applied_too = λ after step no. applied_left service caller handle after.drawn after.operation _ (step.undrawn no) (step.left no);
-      created_too = λ changes key w n kept made no. absurd (no refl);
+      created_too = λ changes key work kept bytes made no. absurd (no refl);
     })
 
 pub leaves_all : RefusalsLeaveAll
@@ -84,6 +84,10 @@ output_stays : (service : Service) (caller handle : ℕ) (now : Operation Deriva
 output_stays service caller handle (Active w) a h = cc
 output_stays service caller handle now a h = refl
 
+unwrap_stays : (service : Service) (caller handle : ℕ) (now : Operation WrapWork) (a : Attributes) (text : List ℕ) → is_active now ≡ false → unwrap_key service caller handle now a text ≡ untouched service BadState
+unwrap_stays service caller handle (Active w) a text h = cc
+unwrap_stays service caller handle now a text h = refl
+
 pub unready_stay : UnreadyHandlesStay
 unready_stay service caller handle (OnHash step) h = stepped_stays service caller handle _ _ _ h
 unready_stay service caller handle (OnMac step) h = stepped_stays service caller handle _ _ _ h
@@ -92,6 +96,8 @@ unready_stay service caller handle (OnAead step) h = stepped_stays service calle
 unready_stay service caller handle (OnDerivation step) h = stepped_stays service caller handle _ _ _ h
 unready_stay service caller handle (InputKey step id) h = input_stays service caller handle _ step id h
 unready_stay service caller handle (OutputKey a) h = output_stays service caller handle _ a h
+unready_stay service caller handle (WrapKey id room) h = stepped_stays service caller handle _ _ _ h
+unready_stay service caller handle (UnwrapKey a text) h = unwrap_stays service caller handle _ a text h
 unready_stay service caller handle Abort h = cc
 unready_stay service caller handle setup h = setup_stays service caller handle _ _ _ refl h
 
@@ -111,6 +117,7 @@ setups_left service caller handle (MacSetup verifies id alg) h failed = refused_
 setups_left service caller handle (CipherSetup encrypts id alg) h failed = refused_stays service caller handle _ _ _ refl failed
 setups_left service caller handle (AeadSetup encrypts id alg) h failed = refused_stays service caller handle _ _ _ refl failed
 setups_left service caller handle (DerivationSetup alg) h failed = refused_stays service caller handle _ _ _ refl failed
+setups_left service caller handle (WrapSetup wraps id alg) h failed = refused_stays service caller handle _ _ _ refl failed
 setups_left service caller handle call h failed = cc
 
 pub setups_stay : RefusedSetupsLeaveAll

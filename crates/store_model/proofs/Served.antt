@@ -1,7 +1,7 @@
 -- The shape of any request: on the store or on a handle, whether a device failed or not.
 use Rattle.std.proofs.Common.{Bool, List, None, Some, ap, arith, cond, false, inl, inr, length, refl, subst, sym, true, ℕ, ◌+◌, ◌∙◌, ◌≡◌, ◌≤◌, ◌⊎◌}
-use Rattle.store_model.proofs.Common.{Attributes, BadState, Call, Corrupt, DataCorrupt, Destroy, FaultMark, HandleCall, HandleOperation, Hardware, HardwareFailure, InError, IsSound, IsSoundOperation, OnHandle, OnStore, Outcome, Own, Plain, Reply, Request, Served, Service, Storage, StorageFailure, Store, counted, created, destroyed, done, failed_step, handle_of, is_setup, may_change_keys, next_derived, next_random, on_store, operation_of, own_of, plain_step, refusal, serve, source_of, with_drawn, with_operation, with_own, without, words_used}
-use Rattle.store_model.proofs.{DrawnBytes.length-random, Operations.Sets, Operations.same_operation, Operations.same_service, Derivations.without_sound, DerivedBytes.length-next_derived, Recorded.MayBeKept, Steps.held_derivation, StoreShape.IsCopied, StoreShape.IsQuiet, StoreShape.refusal_quiet, StoreShape.spoiled_quiet, StoreShape.store_shape, Shape.shape}
+use Rattle.store_model.proofs.Common.{Active, Attributes, BadState, Call, Corrupt, DataCorrupt, Destroy, FaultMark, HandleCall, HandleOperation, Hardware, HardwareFailure, InError, IsSound, IsSoundOperation, OnHandle, OnStore, Outcome, Own, Plain, Reply, Request, Served, Service, Storage, StorageFailure, Store, counted, created, destroyed, done, failed_step, handle_of, is_setup, may_change_keys, next_random, on_store, operation_of, own_of, plain_step, refusal, serve, source_of, with_drawn, with_operation, with_own, words_used}
+use Rattle.store_model.proofs.{DrawnBytes.length-random, Operations.Sets, Operations.same_operation, Operations.same_service, Recorded.MayBeKept, StoreShape.IsCopied, StoreShape.IsQuiet, StoreShape.refusal_quiet, StoreShape.spoiled_quiet, StoreShape.store_shape, Shape.shape}
 
 -- an operation that stays
 pub stays_put : (service : Service) (caller handle : ℕ) (operation : HandleOperation) → operation ≡ operation_of service caller handle →
@@ -103,16 +103,9 @@ module _ (service : Service) (caller : ℕ) (P : Served → Type 0) where
           few = few_words own_before.drawn after.drawn (let f = step.few in omega arith);
           operations = inr (record { handle = handle; operation = after.operation; on = refl; sets = refl; sound = λ h. step.sound h.store (h.operations caller handle) });
         }) (record { no_key = step.no_key; buffer = step.buffer });
-        created_too = λ changes key w n kept made.
-            let held = λ (h : IsSound service). subst (IsSoundOperation service.store) made.was (h.operations caller handle) in
-            cases.created_too _ kept (next_derived w n) (record {
+        created_too = λ changes key work kept bytes made.
+            cases.created_too _ kept bytes (record {
               few = omega arith;
-              operations = inr (record {
-                handle = handle;
-                operation = held_derivation key (without w n);
-                on = refl;
-                sets = refl;
-                sound = λ h. record { key = (held h).key; work = without_sound w n made.enough (held h).work };
-              });
-            }) (record { changes = changes; count = n; may = made.may; long = λ h. length-next_derived w n (held h).work made.keyed; source = inl refl });
+              operations = inr (record { handle = handle; operation = Active (record { key = key; work = work }); on = refl; sets = refl; sound = made.sound });
+            }) (record { changes = changes; count = made.count; may = made.may; long = made.long; source = inl refl });
       }))

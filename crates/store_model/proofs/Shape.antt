@@ -1,24 +1,24 @@
 -- The shape of any call on a handle: it leaves all operations, or makes a step of its own, or creates a key.
-use Rattle.std.proofs.Common.{Bool, Err, List, None, Ok, Option, Result, Some, [], ap, arith, cond, false, is_some, nat_lt, not, refl, subst, sym, true, ℕ, ◌++◌, ◌∷◌, ◌≡◌, ◌≤◌}
-use Rattle.store_model.proofs.Common.{Abort, Active, AeadSetup, AeadWork, After, AlreadyExists, Attributes, Authenticating, BadState, CipherSetup, CipherWork, Ciphering, Class, DerivationSetup, DerivationWork, Deriving, HandleCall, HandleOperation, HashSetup, HashWork, Hashing, Held, Inactive, InputKey, InsufficientData, InsufficientStorage, InvalidArgument, InvalidHandle, IsSoundHeld, IsSoundStore, IsSoundUse, IsSoundWork, Key, KeyCreation, KeyLimit, MacSetup, MacWork, NotPermitted, NotSupported, OnAead, OnCipher, OnDerivation, OnHandle, OnHash, OnMac, Operation, OutputKey, Rows, Sealing, Served, Service, Status, Store, Work, aead_part, aead_step, aead_work, applied, bytes_of_key, cipher_part, cipher_step, cipher_usage, cipher_work, class_rows, creation_of, derivation_part, derivation_step, derivation_work, derived_key, derived_key_of, done, ends, fails, first_row, goes_on, handle_step, hash_part, hash_step, hash_work, held_after, input_key, input_key_rows, is_active, is_alive, is_inactive, is_ready, key_of_operation, left_by, mac_part, mac_step, mac_usage, mac_work, may_change_keys, next_random, operation_of, output_key, output_key_rows, part_of, set_up, stated_bytes, stays, stepped, underived, unless, unless-ok, untouched, use_rows, with_key}
+use Rattle.std.proofs.Common.{Bool, Err, List, None, Ok, Option, Result, Some, [], ap, arith, cond, false, is_some, length, nat_lt, not, refl, subst, sym, true, ℕ, ◌++◌, ◌∷◌, ◌≡◌, ◌≤◌}
+use Rattle.store_model.proofs.Common.{Abort, Active, AeadSetup, AeadWork, After, AlreadyExists, Attributes, Authenticating, BadState, CipherSetup, CipherWork, Ciphering, Class, DerivationSetup, DerivationWork, Deriving, HandleCall, HandleOperation, HashSetup, HashWork, Hashing, Held, Inactive, InputKey, IsSound, InsufficientData, InsufficientStorage, InvalidArgument, InvalidHandle, InvalidSignature, IsSoundHeld, IsSoundOperation, IsSoundStore, IsSoundUse, IsSoundWork, Key, KeyCreation, KeyLimit, MacSetup, MacWork, NotPermitted, NotSupported, OnAead, OnCipher, OnDerivation, OnHandle, OnHash, OnMac, Operation, OutputKey, UnwrapKey, WrapKey, WrapSetup, WrapWork, Wrapping, Rows, Sealing, Served, Service, Status, Store, Work, aead_part, aead_step, aead_work, applied, bytes_of_key, cipher_part, cipher_step, cipher_usage, cipher_work, class_rows, creation_of, derivation_part, derivation_step, derivation_work, derived_key, derived_key_of, done, ends, fails, first_row, goes_on, handle_step, hash_part, hash_step, hash_work, held_after, input_key, input_key_rows, is_active, is_alive, is_inactive, is_ready, key_of_operation, left_by, mac_part, mac_step, mac_usage, mac_work, made_by_operation, may_change_keys, next_derived, without, unwrap_key, unwrap_key_rows, unwrapped, unwrapped_key, unwrapped_key_of, wrap_key_rows, wrap_key_step, wrap_part, wrap_work, next_random, operation_of, output_key, output_key_rows, part_of, set_up, stated_bytes, stays, stepped, underived, unless, unless-ok, untouched, use_rows, with_key}
 use Rattle.std.specs.FinMap as map
 use Rattle.alg_encoding.specs.declared.table.Class.TheVariants as class
-use Rattle.store_model.proofs.{Tables.NoFault, Tables.RefusesPlainly, Tables.none_holds, Tables.refuses_plainly, StoreShape.used_plainly, Recorded.MayBeKept, Recorded.OfRefusals, Recorded.then_ok, Recorded.then_refused, Recorded.unless_refused, Recorded.recorded, Recorded.recorded_refused, Buffers.refusal_leaves}
-use Rattle.store_model.proofs.Steps.{IsStep, Loses, held_derivation, begun, fails_step, unless_step, alive_step, ends_step, hash_is_step, mac_is_step, cipher_is_step, aead_is_step}
-use Rattle.store_model.proofs.Derivations.{derivation_is_step, derivation_lost, exhausted_step, key_sound, key_due, start_sound, not_below, flipped}
+use Rattle.store_model.proofs.{Tables.NoFault, Tables.RefusesPlainly, Tables.none_holds, Tables.refuses_plainly, StoreShape.used_plainly, Recorded.MayBeKept, Recorded.OfRefusals, Recorded.then_ok, Recorded.then_refused, Recorded.unless_refused, Recorded.recorded, Recorded.recorded_refused, Buffers.refusal_leaves, DerivedBytes.length-next_derived}
+use Rattle.store_model.proofs.Steps.{IsStep, Loses, held_derivation, begun, fails_step, unless_step, alive_step, ends_step, goes_step, hash_is_step, mac_is_step, cipher_is_step, aead_is_step}
+use Rattle.store_model.proofs.Derivations.{derivation_is_step, derivation_lost, exhausted_step, without_sound, key_sound, key_due, start_sound, not_below, flipped}
 
--- an active derivation has its secret and so many bytes, and these attributes may be kept
-pub record DerivesKey (service : Service) (caller handle : ℕ) (key : Option KeyCreation) (w : DerivationWork) (n : ℕ) (kept : Attributes) : Type 0 where
-  pub was : operation_of service caller handle ≡ held_derivation key w
-  pub keyed : is_some w.secret ≡ true
-  pub enough : n ≤ w.capacity
-  pub may : MayBeKept service.store caller kept n
+-- an operation of this key makes one of these bytes and goes on with this work: the attributes may be kept for so many bytes
+pub record MakesKey (service : Service) (caller : ℕ) (key : Option KeyCreation) (work : Work) (kept : Attributes) (bytes : List ℕ) : Type 0 where
+  pub sound : IsSound service → IsSoundHeld service.store (record { key = key; work = work })
+  pub count : ℕ
+  pub long : IsSound service → length bytes ≡ count
+  pub may : MayBeKept service.store caller kept count
 
 -- what is to be shown of each kind of outcome of a call
 pub record CallCases (service : Service) (caller handle : ℕ) (call : HandleCall) (P : Served → Type 0) : Type 0 where
   pub untouched_too : left_by call (operation_of service caller handle) BadState ≡ operation_of service caller handle → P (untouched service BadState)
   pub applied_too : (after : After Held) → IsStep call service.store (operation_of service caller handle) after → P (applied service caller handle after)
-  pub created_too : may_change_keys (OnHandle handle call) ≡ true → (key : Option KeyCreation) (w : DerivationWork) (n : ℕ) (kept : Attributes) → DerivesKey service caller handle key w n kept → P (derived_key service caller handle key w n (Ok kept))
+  pub created_too : may_change_keys (OnHandle handle call) ≡ true → (key : Option KeyCreation) (work : Work) (kept : Attributes) (bytes : List ℕ) → MakesKey service caller key work kept bytes → P (made_by_operation service caller handle key work kept bytes)
 
 -- a call that isn't in order leaves its operation
 otherwise : (b : Bool) (x y : HandleOperation) → b ≡ false → cond b x y ≡ y
@@ -96,6 +96,10 @@ own_derivation : (work : Work) (w : DerivationWork) → derivation_part work ≡
 own_derivation (Deriving v) w e = cc
 own_derivation other w e = cc
 
+own_wrap : (work : Work) (w : WrapWork) → wrap_part work ≡ Active w → work ≡ Wrapping w
+own_wrap (Wrapping v) w e = cc
+own_wrap other w e = cc
+
 module _ (service : Service) (caller handle : ℕ) (call : HandleCall) (P : Served → Type 0) (cases : CallCases service caller handle call P) where
   abbrev before : HandleOperation
   before = operation_of service caller handle
@@ -157,14 +161,17 @@ module _ (service : Service) (caller handle : ℕ) (a : Attributes) (P : Served 
   rows_before w = (not (is_alive service.store used_key), InvalidHandle) ∷ output_key_rows w a ++ (nat_lt w.capacity (stated_bytes a), InsufficientData) ∷ []
 
   derives : (w : DerivationWork) → operation_of service caller handle ≡ held_derivation used_key w → (kept : Attributes) → derived_key_of service.store caller used_key w a ≡ Ok kept →
-      DerivesKey service caller handle used_key w (stated_bytes a) kept
+      MakesKey service caller used_key (Deriving (without w (stated_bytes a))) kept (next_derived w (stated_bytes a))
   derives w was kept e =
       let one = then_ok (unless (first_row (rows_before w)) a) _ kept e in
       let passed = (unless-ok (first_row (rows_before w)) a one.0 one.1.0).0 in
+      let keyed = flipped (is_some w.secret) (none_holds (rows_before w) 1 passed) in
+      let enough = not_below w.capacity (stated_bytes a) (none_holds (rows_before w) 5 passed) in
+      let held = λ (h : IsSound service). subst (IsSoundOperation service.store) was (h.operations caller handle) in
       record {
-        was = was;
-        keyed = flipped (is_some w.secret) (none_holds (rows_before w) 1 passed);
-        enough = not_below w.capacity (stated_bytes a) (none_holds (rows_before w) 5 passed);
+        sound = λ h. record { key = (held h).key; work = without_sound w (stated_bytes a) enough (held h).work };
+        count = stated_bytes a;
+        long = λ h. length-next_derived w (stated_bytes a) (held h).work keyed;
         may = (recorded service.store caller one.0 (stated_bytes a) kept one.1.1).may;
       }
 
@@ -196,12 +203,73 @@ module _ (service : Service) (caller handle : ℕ) (a : Attributes) (P : Served 
 
   derived_shape : (w : DerivationWork) → operation_of service caller handle ≡ held_derivation used_key w → (r : Result Attributes Status) → derived_key_of service.store caller used_key w a ≡ r →
       P (derived_key service caller handle used_key w (stated_bytes a) r)
-  derived_shape w was (Ok kept) e = cases.created_too refl used_key w (stated_bytes a) kept (derives w was kept e)
+  derived_shape w was (Ok kept) e = cases.created_too refl used_key (Deriving (without w (stated_bytes a))) kept (next_derived w (stated_bytes a)) (derives w was kept e)
   derived_shape w was (Err status) e = steps_shape service caller handle _ P cases Deriving w _ was (refused_step w status e)
 
   output_key_shape : (now : Operation DerivationWork) → part_of derivation_part (operation_of service caller handle) ≡ now → P (output_key service caller handle now a)
   output_key_shape (Active w) e = derived_shape w (held_as derivation_part Deriving own_derivation (operation_of service caller handle) w e) _ refl
   output_key_shape other e = cases.untouched_too (unready_left (OutputKey a) (operation_of service caller handle) (ap is_active e))
+
+-- A KEY THAT IS WRAPPED
+
+wrap_plainly : (w : WrapWork) (found : Option Key) (room : ℕ) → RefusesPlainly (first_row (wrap_key_rows w found room))
+wrap_plainly w None room = refuses_plainly (wrap_key_rows w None room) refl
+wrap_plainly w (Some key) room = refuses_plainly (wrap_key_rows w (Some key) room) refl
+
+wrap_is_step : (store : Store) (key : Option KeyCreation) (id room : ℕ) (found : Option Key) (w : WrapWork) →
+    IsStep (WrapKey id room) store (begun key Wrapping w) (held_after key Wrapping (wrap_key_step w found room))
+wrap_is_step store key id room found w =
+    unless_step store key Wrapping (begun key Wrapping w) (first_row (wrap_key_rows w found room)) _ (wrap_plainly w found room) (λ status refused. refl)
+    (λ passed. goes_step store key Wrapping w w _ refl (λ after. refl) (λ h. h))
+
+-- A KEY THAT IS UNWRAPPED
+
+module _ (service : Service) (caller handle : ℕ) (a : Attributes) (text : List ℕ) (P : Served → Type 0) (cases : CallCases service caller handle (UnwrapKey a text) P) where
+  abbrev wrapping_key : Option KeyCreation
+  wrapping_key = key_of_operation (operation_of service caller handle)
+
+  abbrev rows_first : WrapWork → Rows
+  rows_first w = (not (is_alive service.store wrapping_key), InvalidHandle) ∷ unwrap_key_rows w a text
+
+  unwraps : (w : WrapWork) → operation_of service caller handle ≡ begun wrapping_key Wrapping w → (kept : Attributes) → unwrapped_key_of service.store caller wrapping_key w a text ≡ Ok kept →
+      MakesKey service caller wrapping_key (Wrapping w) kept (unwrapped w text)
+  unwraps w was kept e =
+      let one = then_ok (unless (first_row (rows_first w)) a) _ kept e in
+      record {
+        sound = λ h. subst (IsSoundOperation service.store) was (h.operations caller handle);
+        count = length (unwrapped w text);
+        long = λ h. refl;
+        may = (recorded service.store caller one.0 (length (unwrapped w text)) kept one.1.1).may;
+      }
+
+  -- a refusal puts the operation in error
+  abbrev Refuses : WrapWork → Status → Type 0
+  Refuses w status = IsStep (UnwrapKey a text) service.store (begun wrapping_key Wrapping w) (fails status)
+
+  ends_in_error : (w : WrapWork) (status : Status) → NoFault status → Refuses w status
+  ends_in_error w status plain = fails_step service.store wrapping_key Wrapping (begun wrapping_key Wrapping w) status plain refl
+
+  unwrap_refused : (w : WrapWork) → OfRefusals (Refuses w) (unwrapped_key_of service.store caller wrapping_key w a text)
+  unwrap_refused w =
+      then_refused (Refuses w) (unless (first_row (rows_first w)) a) _
+      (unless_refused (Refuses w) (rows_first w) a (
+        λ on. ends_in_error w InvalidHandle refl,
+        (
+          λ on. ends_in_error w BadState refl,
+          (λ on. ends_in_error w InvalidArgument refl, (λ on. ends_in_error w NotSupported refl, (λ on. ends_in_error w InvalidSignature refl, tt))),
+        ),
+      ))
+      (λ stated. recorded_refused (Refuses w) (ends_in_error w NotSupported refl) (ends_in_error w InvalidArgument refl) (ends_in_error w NotPermitted refl) (ends_in_error w KeyLimit refl) (ends_in_error w AlreadyExists refl)
+      (ends_in_error w InsufficientStorage refl) service.store caller stated (length (unwrapped w text)))
+
+  unwrapped_shape : (w : WrapWork) → operation_of service caller handle ≡ begun wrapping_key Wrapping w → (r : Result Attributes Status) → unwrapped_key_of service.store caller wrapping_key w a text ≡ r →
+      P (unwrapped_key service caller handle wrapping_key w (unwrapped w text) r)
+  unwrapped_shape w was (Ok kept) e = cases.created_too refl wrapping_key (Wrapping w) kept (unwrapped w text) (unwraps w was kept e)
+  unwrapped_shape w was (Err status) e = steps_shape service caller handle _ P cases Wrapping w _ was (unwrap_refused w status e)
+
+  unwrap_key_shape : (now : Operation WrapWork) → part_of wrap_part (operation_of service caller handle) ≡ now → P (unwrap_key service caller handle now a text)
+  unwrap_key_shape (Active w) e = unwrapped_shape w (held_as wrap_part Wrapping own_wrap (operation_of service caller handle) w e) _ refl
+  unwrap_key_shape other e = cases.untouched_too (unready_left (UnwrapKey a text) (operation_of service caller handle) (ap is_active e))
 
 -- ANY CALL
 
@@ -233,4 +301,10 @@ shape service caller handle (OnDerivation step) P cases =
     (λ w. derivation_is_step service.store _ w step) (unready_left (OnDerivation step) _) _ refl
 shape service caller handle (InputKey step id) P cases = input_key_shape service caller handle step id P cases _ refl
 shape service caller handle (OutputKey a) P cases = output_key_shape service caller handle a P cases _ refl
+shape service caller handle (WrapSetup wraps id alg) P cases =
+    cases.applied_too _ (keyed_step (WrapSetup wraps id alg) (λ o. refl) service.store _ class.Wrap (cipher_usage wraps) alg id (λ key. Wrapping (wrap_work wraps key)) (λ key. tt))
+shape service caller handle (WrapKey id room) P cases =
+    stepped_shape service caller handle _ P cases wrap_part Wrapping own_wrap (λ w. wrap_key_step w (map.get service.store.keys id) room) (λ w. refl)
+    (λ w. wrap_is_step service.store _ id room (map.get service.store.keys id) w) (unready_left (WrapKey id room) _) _ refl
+shape service caller handle (UnwrapKey a text) P cases = unwrap_key_shape service caller handle a text P cases _ refl
 shape service caller handle Abort P cases = cases.applied_too (ends done) (ends_step service.store None Deriving _ done refl (λ a. refl))

@@ -11,7 +11,7 @@ answers_plainly service caller (OnStore call) =
       destroyed_too = λ id is. refl;
     })
 answers_plainly service caller (OnHandle handle call) =
-    shape service caller handle call (λ served. NoFault served.reply.status) (record { untouched_too = λ may. refl; applied_too = λ after step. step.plain; created_too = λ changes key w n kept made. refl })
+    shape service caller handle call (λ served. NoFault served.reply.status) (record { untouched_too = λ may. refl; applied_too = λ after step. step.plain; created_too = λ changes key work kept bytes made. refl })
 
 pub marks_alone : MarksAlone
 marks_alone service caller request Plain = (λ told is. let clash = sym told ∙ answers_plainly service caller request in cc, λ no. absurd (no refl))

@@ -1,12 +1,13 @@
 -- Calls on a handle.
-use Rattle.std.specs.Prelude.{ℕ, Bool, true, false, not, nat_lt, ◌&&◌, ◌||◌, ◌==◌, List, [], ◌∷◌, ◌++◌, Option, Some, None, Result, Ok, Err}
+use Rattle.std.specs.Prelude.{ℕ, Bool, true, false, not, nat_lt, ◌&&◌, ◌||◌, ◌==◌, List, [], ◌∷◌, ◌++◌, length, Option, Some, None, Result, Ok, Err}
 use Rattle.store_model.specs.{Common.Attributes, Common.BadState, Common.Class, Common.InsufficientData, Common.InvalidArgument, Common.InvalidHandle, Common.Key, Common.NotPermitted, Common.NotSupported, Common.Outcome, Common.Rows, Common.Status, Common.Store, Common.done, Common.first_row, Common.is_opaque, Common.may_use, Common.option_map, Common.unless, Common.◌>>=◌, KeyUse.bytes_of_key}
 use Rattle.std.specs.FinMap as map
 use Rattle.alg_encoding.specs.declared.table.Class.TheVariants as class
 use Rattle.store_model.specs.{Rules.class_rows, Rules.use_rows, Rules.mac_usage, Rules.cipher_usage, Creation.recorded_of, Creation.created, Operations.Operation, Operations.Active, Operations.After, Operations.set_up, Operations.fails, Operations.ends, Operations.goes_on, Operations.unless_failed, Operations.with_live_key, MacOperations.MacStep, MacOperations.mac_work, MacOperations.mac_step}
 use Rattle.store_model.specs.{HashOperations.HashStep, HashOperations.hash_work, HashOperations.hash_step, CipherOperations.CipherStep, CipherOperations.cipher_work, CipherOperations.cipher_step, AeadOperations.AeadStep, AeadOperations.aead_work, AeadOperations.aead_step}
 use Rattle.store_model.specs.DerivationOperations.{DerivationStep, DerivationWork, derivation_work, derivation_step, secret_step, key_step_rows, with_key, output_key_rows, exhausted, without, next_derived, stated_bytes}
-use Rattle.store_model.specs.Handles.{KeyCreation, Work, Hashing, Authenticating, Ciphering, Sealing, Deriving, Service, Served, own_of, operation_of, with_own, with_operation, next_random, applied, untouched, stepped, part_of, hash_part, mac_part, cipher_part, aead_part, derivation_part, key_of_operation, is_alive, held_after, held_with}
+use Rattle.store_model.specs.WrapOperations.{WrapWork, wrap_work, wrap_key_step, unwrap_key_rows, unwrapped}
+use Rattle.store_model.specs.Handles.{KeyCreation, Work, Hashing, Authenticating, Ciphering, Sealing, Deriving, Wrapping, Service, Served, own_of, operation_of, with_own, with_operation, next_random, applied, untouched, stepped, part_of, hash_part, mac_part, cipher_part, aead_part, derivation_part, wrap_part, key_of_operation, is_alive, held_after, held_with}
 
 pub data HandleCall : Type 0 where
   HashSetup : (alg : ℕ) → HandleCall
@@ -21,6 +22,9 @@ pub data HandleCall : Type 0 where
   OnDerivation : (step : DerivationStep) → HandleCall
   InputKey : (step id : ℕ) → HandleCall
   OutputKey : (attributes : Attributes) → HandleCall
+  WrapSetup : (wraps : Bool) (id alg : ℕ) → HandleCall
+  WrapKey : (id room : ℕ) → HandleCall
+  UnwrapKey : (attributes : Attributes) (text : List ℕ) → HandleCall
   Abort : HandleCall
 
 -- SETUPS
@@ -31,6 +35,7 @@ is_setup (MacSetup verifies id alg) = true
 is_setup (CipherSetup encrypts id alg) = true
 is_setup (AeadSetup encrypts id alg) = true
 is_setup (DerivationSetup alg) = true
+is_setup (WrapSetup wraps id alg) = true
 is_setup _ = false
 
 abbrev pub set_up_with : Service → (caller handle : ℕ) → Option Status → Option KeyCreation → Work → Served
@@ -72,6 +77,17 @@ input_key service caller handle (Active w) step id =
     (unless_failed (first_row (input_key_rows w found step)) (goes_on (with_key w (bytes_of_key found)) done))))
 input_key service caller handle _ step id = untouched service BadState
 
+-- A KEY THAT AN OPERATION MAKES
+
+-- a key of these bytes comes into being, and the operation, which is of this key and goes on with this work, stays active
+abbrev pub made_by_operation : Service → (caller handle : ℕ) → Option KeyCreation → Work → Attributes → List ℕ → Served
+made_by_operation service caller handle key work kept bytes =
+    let made : Outcome = created service.store caller kept bytes in
+    record {
+      service = with_own service made.store caller (with_operation (own_of service caller) handle (Active (record { key = key; work = work })));
+      reply = made.reply;
+    }
+
 -- A KEY OF DERIVED BYTES
 
 -- what it records, or the first refusal: the derivation's key is there and gives so many bytes, and then that of every creation
@@ -87,18 +103,32 @@ underived w status = fails status
 
 abbrev pub derived_key : Service → (caller handle : ℕ) → Option KeyCreation → DerivationWork → ℕ → Result Attributes Status → Served
 derived_key service caller handle key w n (Err status) = applied service caller handle (held_after key Deriving (underived w status))
-derived_key service caller handle key w n (Ok kept) =
-    let made : Outcome = created service.store caller kept (next_derived w n) in
-    record {
-      service = with_own service made.store caller (with_operation (own_of service caller) handle (held_with key Deriving (Active (without w n))));
-      reply = made.reply;
-    }
+derived_key service caller handle key w n (Ok kept) = made_by_operation service caller handle key (Deriving (without w n)) kept (next_derived w n)
 
 abbrev pub output_key : Service → (caller handle : ℕ) → Operation DerivationWork → Attributes → Served
 output_key service caller handle (Active w) a =
     let key : Option KeyCreation = key_of_operation (operation_of service caller handle) in
     derived_key service caller handle key w (stated_bytes a) (derived_key_of service.store caller key w a)
 output_key service caller handle _ a = untouched service BadState
+
+-- A KEY THAT IS UNWRAPPED
+
+-- what it records, or the first refusal: the wrapping key is there and unwraps the text, and then that of every creation
+abbrev pub unwrapped_key_of : Store → ℕ → Option KeyCreation → WrapWork → Attributes → List ℕ → Result Attributes Status
+unwrapped_key_of store caller key w a text = do
+  stated ← unless (first_row ((not (is_alive store key), InvalidHandle) ∷ unwrap_key_rows w a text)) a
+  recorded_of store caller stated (length (unwrapped w text))
+
+-- a refusal puts the operation in error
+abbrev pub unwrapped_key : Service → (caller handle : ℕ) → Option KeyCreation → WrapWork → List ℕ → Result Attributes Status → Served
+unwrapped_key service caller handle key w bytes (Err status) = applied service caller handle (fails status)
+unwrapped_key service caller handle key w bytes (Ok kept) = made_by_operation service caller handle key (Wrapping w) kept bytes
+
+abbrev pub unwrap_key : Service → (caller handle : ℕ) → Operation WrapWork → Attributes → List ℕ → Served
+unwrap_key service caller handle (Active w) a text =
+    let key : Option KeyCreation = key_of_operation (operation_of service caller handle) in
+    unwrapped_key service caller handle key w (unwrapped w text) (unwrapped_key_of service.store caller key w a text)
+unwrap_key service caller handle _ a text = untouched service BadState
 
 -- ANY CALL
 
@@ -124,4 +154,9 @@ handle_step service caller handle (OnDerivation step) =
     stepped service caller handle Deriving (part_of derivation_part (operation_of service caller handle)) (λ w. derivation_step w step)
 handle_step service caller handle (InputKey step id) = input_key service caller handle (part_of derivation_part (operation_of service caller handle)) step id
 handle_step service caller handle (OutputKey a) = output_key service caller handle (part_of derivation_part (operation_of service caller handle)) a
+handle_step service caller handle (WrapSetup wraps id alg) =
+    set_up_keyed service caller handle class.Wrap (cipher_usage wraps) alg id (λ key. Wrapping (wrap_work wraps key))
+handle_step service caller handle (WrapKey id room) =
+    stepped service caller handle Wrapping (part_of wrap_part (operation_of service caller handle)) (λ w. wrap_key_step w (map.get service.store.keys id) room)
+handle_step service caller handle (UnwrapKey a text) = unwrap_key service caller handle (part_of wrap_part (operation_of service caller handle)) a text
 handle_step service caller handle Abort = applied service caller handle (ends done)

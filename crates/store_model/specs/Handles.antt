@@ -3,7 +3,7 @@ use Rattle.std.specs.Prelude.{ℕ, ◌+◌, Bool, true, false, ◌==◌, List, r
 use Rattle.store_model.specs.{Common.BadState, Common.Random, Common.Reply, Common.Status, Common.Store, Common.caller_count, Common.counted, Common.option_map_or, Common.refusal, Operations.Operation, Operations.Inactive, Operations.InError, Operations.Active, Operations.After, Operations.with_live_key, HashOperations.HashWork, MacOperations.MacWork, CipherOperations.CipherWork}
 use Rattle.std.specs.FinMap as map
 use Rattle.random_streams.specs.RandomWords.{random_bytes, words_used}
-use Rattle.store_model.specs.{AeadOperations.AeadWork, DerivationOperations.DerivationWork}
+use Rattle.store_model.specs.{AeadOperations.AeadWork, DerivationOperations.DerivationWork, WrapOperations.WrapWork}
 
 pub data Work : Type 0 where
   Hashing : (work : HashWork) → Work
@@ -11,6 +11,7 @@ pub data Work : Type 0 where
   Ciphering : (work : CipherWork) → Work
   Sealing : (work : AeadWork) → Work
   Deriving : (work : DerivationWork) → Work
+  Wrapping : (work : WrapWork) → Work
 
 -- the creation of a key: its identifier then, and the number that no other creation has
 pub record KeyCreation : Type 0 where
@@ -118,6 +119,10 @@ aead_part _ = Inactive
 abbrev pub derivation_part : Work → Operation DerivationWork
 derivation_part (Deriving work) = Active work
 derivation_part _ = Inactive
+
+abbrev pub wrap_part : Work → Operation WrapWork
+wrap_part (Wrapping work) = Active work
+wrap_part _ = Inactive
 
 abbrev pub held_with : {W : Type 0} → Option KeyCreation → (W → Work) → Operation W → HandleOperation
 held_with key embed (Active work) = Active (record { key = key; work = embed work })

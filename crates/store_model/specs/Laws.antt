@@ -1,7 +1,7 @@
 -- Laws of every request.
 use Rattle.std.specs.Prelude.{◌≡◌, ◌≤◌, ◌↔◌, ◌⊎◌, ◌+◌, ℕ, Bool, false, true, Option, None, Some, Ok, List, [], ◌∷◌, ◌++◌, replicate, drop, if◌then◌else◌}
 use Rattle.std.specs.FinMap as map
-use Rattle.store_model.specs.{Common.BadState, Common.Copy, Common.Destroy, Common.FaultMark, Common.Generate, Common.Import, Common.Key, Common.Plain, Common.Reply, Common.Status, Common.Store, Common.Success, Common.after_rules, Common.buffer_after, Common.counted, Common.is_of_fault, Common.made_of, HandleCalls.HandleCall, HandleCalls.OutputKey, HandleCalls.is_setup}
+use Rattle.store_model.specs.{Common.BadState, Common.Copy, Common.Destroy, Common.FaultMark, Common.Generate, Common.Import, Common.Key, Common.Plain, Common.Reply, Common.Status, Common.Store, Common.Success, Common.after_rules, Common.buffer_after, Common.counted, Common.is_of_fault, Common.made_of, HandleCalls.HandleCall, HandleCalls.OutputKey, HandleCalls.UnwrapKey, HandleCalls.is_setup}
 use Rattle.store_model.specs.{Handles.HandleOperation, Handles.Service, Handles.Served, Handles.own_of, Handles.operation_of, Handles.with_own, Handles.with_operation, Handles.untouched, Requests.Request, Requests.OnStore, Requests.OnHandle, Requests.serve, Replay.Entry, Replay.replay, Marks.FaultCounts, Marks.MayBeMarked, Marks.HasFault, Marks.IsCaused, Marks.AreAllowed, Marks.last_counts}
 use Rattle.store_model.specs.Refusals.{is_ready, left_by, spoils}
 
@@ -70,6 +70,7 @@ may_change_keys (OnStore (Copy source stated)) = true
 may_change_keys (OnStore (Generate a)) = true
 may_change_keys (OnStore (Destroy id)) = true
 may_change_keys (OnHandle handle (OutputKey a)) = true
+may_change_keys (OnHandle handle (UnwrapKey a text)) = true
 may_change_keys _ = false
 
 -- a request that neither creates nor destroys leaves the shared store but for the count, whatever it computes

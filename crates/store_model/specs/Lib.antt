@@ -21,6 +21,7 @@ pub mod MacOperations
 pub mod CipherOperations
 pub mod AeadOperations
 pub mod DerivationOperations
+pub mod WrapOperations
 pub mod Handles
 pub mod HandleCalls
 pub mod Requests

@@ -3,8 +3,8 @@ use Rattle.std.specs.Prelude.{◌≡◌, ℕ, Bool, true, false, not, ◌||◌, 
 use Rattle.store_model.specs.Common.{AeadDecrypt, AeadEncrypt, Call, CipherDecrypt, CipherEncrypt, Copy, Corrupt, Destroy, Export, FaultMark, GetAttributes, Hardware, Identifier, InvalidSignature, Key, MacCompute, MacVerify, Output, Plain, Reading, Status, Storage, Store, Success, Writing, first_row, is_opaque_key, is_persistent_key, option_and_then}
 use Rattle.std.specs.FinMap as map
 use Rattle.psa_status.specs.Causes.{Rose}
-use Rattle.store_model.specs.{Operations.Operation, Operations.Active, Operations.is_inactive, DerivationOperations.DerivationWork, DerivationOperations.key_step_rows, Handles.Service, Handles.Served, Handles.operation_of, Handles.key_of_operation, Handles.is_alive, Handles.part_of, Handles.derivation_part, Requests.Request, Requests.OnStore, Requests.OnHandle, Requests.plain_step}
-use Rattle.store_model.specs.{HandleCalls.HandleCall, HandleCalls.MacSetup, HandleCalls.CipherSetup, HandleCalls.AeadSetup, HandleCalls.InputKey, Replay.Entry, Replay.outcome_of}
+use Rattle.store_model.specs.{Operations.Operation, Operations.Active, Operations.is_inactive, DerivationOperations.DerivationWork, DerivationOperations.key_step_rows, WrapOperations.WrapWork, Handles.Service, Handles.Served, Handles.operation_of, Handles.key_of_operation, Handles.is_alive, Handles.part_of, Handles.derivation_part, Handles.wrap_part, Requests.Request, Requests.OnStore, Requests.OnHandle, Requests.plain_step}
+use Rattle.store_model.specs.{HandleCalls.HandleCall, HandleCalls.MacSetup, HandleCalls.CipherSetup, HandleCalls.AeadSetup, HandleCalls.InputKey, HandleCalls.WrapSetup, HandleCalls.WrapKey, Replay.Entry, Replay.outcome_of}
 
 -- the identifier of the key with which a secure element computes, where it holds that
 abbrev pub computed_with : Call → Option ℕ
@@ -28,6 +28,7 @@ abbrev pub read_by_setup : HandleCall → Option ℕ
 read_by_setup (MacSetup verifies id alg) = Some id
 read_by_setup (CipherSetup encrypts id alg) = Some id
 read_by_setup (AeadSetup encrypts id alg) = Some id
+read_by_setup (WrapSetup wraps id alg) = Some id
 read_by_setup _ = None
 
 -- whether a derivation takes a key at a step, whichever that is
@@ -35,12 +36,20 @@ abbrev pub takes_key : Store → Operation DerivationWork → (own_is_alive : Bo
 takes_key store (Active w) own_is_alive step = own_is_alive && not (is_some (first_row (key_step_rows w step)))
 takes_key store _ own_is_alive step = false
 
+-- whether an operation looks for a key to wrap, whichever that is
+abbrev pub wraps_key : Operation WrapWork → (own_is_alive : Bool) → Bool
+wraps_key (Active w) own_is_alive = own_is_alive && w.wraps
+wraps_key _ own_is_alive = false
+
 -- the identifier of the key that a request reads, where no row refuses it before that
 abbrev pub id_read : Service → ℕ → Request → Option ℕ
 id_read service caller (OnStore call) = read_by call
 id_read service caller (OnHandle handle (InputKey step id)) =
     let operation = operation_of service caller handle in
     if takes_key service.store (part_of derivation_part operation) (is_alive service.store (key_of_operation operation)) step then Some id else None
+id_read service caller (OnHandle handle (WrapKey id room)) =
+    let operation = operation_of service caller handle in
+    if wraps_key (part_of wrap_part operation) (is_alive service.store (key_of_operation operation)) then Some id else None
 id_read service caller (OnHandle handle call) = if is_inactive (operation_of service caller handle) then read_by_setup call else None
 
 abbrev pub reads_persistent : Service → ℕ → Request → Bool

@@ -10,7 +10,7 @@ pub record Made : Type 0 where
   pub policy : Policy
   pub source : Option ℕ
 
--- the creation number of a copy's source; nothing else has one, nor has a key of derived bytes
+-- the creation number of a copy's source; nothing else has one, nor has a key of derived bytes or one that was unwrapped
 abbrev pub source_of : Store → Request → Option ℕ
 source_of store (OnStore (Copy source stated)) = option_map (λ key. key.number) (map.get store.keys source)
 source_of store _ = None

@@ -1,8 +1,8 @@
 -- What a refused call leaves of its handle's operation, and of its output buffer.
 use Rattle.std.specs.Prelude.{Bool, true, false, length, if◌then◌else◌}
 use Rattle.store_model.specs.{Common.HardwareFailure, Common.InsufficientData, Common.InvalidArgument, Common.InvalidPadding, Common.InvalidSignature, Common.Status, Operations.Operation, Operations.InError, Operations.Active, Operations.is_inactive, DerivationOperations.SetCapacity, DerivationOperations.OutputBytes, DerivationOperations.VerifyBytes, DerivationOperations.without}
-use Rattle.store_model.specs.Handles.{Work, Deriving, HandleOperation, key_of_operation, held_with, part_of, hash_part, mac_part, cipher_part, aead_part, derivation_part}
-use Rattle.store_model.specs.HandleCalls.{HandleCall, OnHash, OnMac, OnCipher, OnAead, OnDerivation, InputKey, OutputKey, Abort}
+use Rattle.store_model.specs.Handles.{Work, Deriving, HandleOperation, key_of_operation, held_with, part_of, hash_part, mac_part, cipher_part, aead_part, derivation_part, wrap_part}
+use Rattle.store_model.specs.HandleCalls.{HandleCall, OnHash, OnMac, OnCipher, OnAead, OnDerivation, InputKey, OutputKey, WrapKey, UnwrapKey, Abort}
 
 abbrev pub is_active : {W : Type 0} → Operation W → Bool
 is_active (Active work) = true
@@ -17,6 +17,8 @@ is_ready (OnAead step) operation = is_active (part_of aead_part operation)
 is_ready (OnDerivation step) operation = is_active (part_of derivation_part operation)
 is_ready (InputKey step id) operation = is_active (part_of derivation_part operation)
 is_ready (OutputKey attributes) operation = is_active (part_of derivation_part operation)
+is_ready (WrapKey id room) operation = is_active (part_of wrap_part operation)
+is_ready (UnwrapKey attributes text) operation = is_active (part_of wrap_part operation)
 is_ready Abort operation = true
 is_ready setup operation = is_inactive operation
 

@@ -12,6 +12,7 @@ class_number class.Mac = 1
 class_number class.Cipher = 2
 class_number class.Aead = 3
 class_number class.Derivation = 4
+class_number class.Wrap = 5
 
 abbrev pub is_of_class : Class → ℕ → Bool
 is_of_class class alg = option_map_or (λ c. class_number c == class_number class) (class_of alg) false
@@ -23,7 +24,7 @@ class_rows class alg =
     ∷ (not (is_of_class class alg && is_concrete alg), InvalidArgument)
     ∷ []
 
--- HMAC is for keys of its type, and every other MAC, cipher and AEAD for AES keys
+-- HMAC is for keys of its type, and every other MAC, cipher, AEAD and key wrap for AES keys
 abbrev pub fits_type : ℕ → ℕ → Bool
 fits_type alg key_type = key_type == (if is_hmac alg then 0x1100 else 0x2400)
 

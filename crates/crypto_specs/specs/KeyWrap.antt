@@ -2,7 +2,7 @@
 -- 8 bytes, and n is at least 2. What runs through the steps is the list of the register A and of
 -- the registers R 1, .., R n, 8 bytes each, in the form that shifts (2.2.1 and 2.2.2).
 use Rattle.std.specs.{Prelude.ℕ, Prelude.zero, Prelude.suc, Prelude.◌+◌, Prelude.◌-◌, Prelude.◌*◌, Prelude.◌/◌, Prelude.List, Prelude.◌++◌, Prelude.length, Prelude.take, Prelude.drop, Prelude.replicate, Prelude.cond, Prelude.bytes_eq, Prelude.Some, Prelude.None, Prelude.Option, Int.w64, Int.to_be_bytes}
-use Rattle.crypto_specs.specs.Prelude.{xor_bytes}
+use Rattle.crypto_specs.specs.Bytes.{xor_bytes}
 
 -- the initial value (2.2.3.1)
 abbrev pub initial_value : List ℕ
