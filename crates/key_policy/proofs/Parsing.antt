@@ -57,6 +57,7 @@ fits (family.Hash hash) tag number l = number % 2 ^ 8 == byte_of hash
 fits (family.Mac mac) tag number l = is_stated tag mac.length && (are_up_to l (whole_length mac.kind) && is_kind mac.kind number)
 fits (family.Cipher mode) tag number l = not (has_length l) && number == mode_base mode
 fits (family.Aead aead) tag number l = is_stated tag aead.tag_length && (are_of l aead.kind && same (is_ccm aead.kind) (number == 0x05400100))
+fits family.Wrap tag number l = not (has_length l) && number == 0x80000100
 fits (family.Derivation d) tag number l = not (has_length l) && (same (is_hkdf d.scheme) (number / 2 ^ 8 == 0x080001) && number % 2 ^ 8 == byte_of d.hash)
 
 abbrev is_named : Option Algorithm → Option ℕ → ℕ → Base → Bool
@@ -76,6 +77,7 @@ same_class class.Mac class.Mac h = refl
 same_class class.Cipher class.Cipher h = refl
 same_class class.Aead class.Aead h = refl
 same_class class.Derivation class.Derivation h = refl
+same_class class.Wrap class.Wrap h = refl
 same_class c d h = cc
 
 stated : (tag : Option ℕ) (n : ℕ) → is_stated tag n ≡ true → tag ≡ Some n
@@ -166,6 +168,8 @@ module _ (alg : ℕ) where
         hash = names_hash alg d.hash row.1;
       }
 
+  names family.Wrap l e h = tt
+
   there : (b : Base) → entry_of alg ≡ Some b → (found : Option Algorithm) → is_named found (tag_length_of alg) (base_of alg) b ≡ true → Parsed alg found
   unfolding class_of
   there b e None h = cc
@@ -214,8 +218,8 @@ module _ (n : ℕ) (outside : is_concrete n ≡ false) where
       let at = none_at (λ (o : Option Algorithm). o) n in
       let hash_at = none_at (λ (o : Option Hash). hashed_if (n / 2 ^ 8) o None) (n % 2 ^ 8) in
       at 0x03c00200 _ _ (λ e. refl) (at 0x04c01000 _ _ (none_if _ refl) (at 0x04404000 _ _ (none_if _ refl) (at 0x04404100 _ _ (none_if _ refl) (at 0x04404400 _ _ (none_if _ refl)
-      (at 0x05400100 _ _ (λ e. refl) (at 0x05400200 _ _ (λ e. refl) (hash_at 8 (Some Sha224) _ (no_hash Sha224 refl refl refl) (hash_at 9 (Some Sha256) _ (no_hash Sha256 refl refl refl)
-      (hash_at 10 (Some Sha384) _ (no_hash Sha384 refl refl refl) (hash_at 11 (Some Sha512) None (no_hash Sha512 refl refl refl) refl))))))))))
+      (at 0x05400100 _ _ (λ e. refl) (at 0x05400200 _ _ (λ e. refl) (at 0x80000100 _ _ (none_if _ refl) (hash_at 8 (Some Sha224) _ (no_hash Sha224 refl refl refl) (hash_at 9 (Some Sha256) _ (no_hash Sha256 refl refl refl)
+      (hash_at 10 (Some Sha384) _ (no_hash Sha384 refl refl refl) (hash_at 11 (Some Sha512) None (no_hash Sha512 refl refl refl) refl)))))))))))
 
 pub without_length : (alg : ℕ) → tag_length_of alg ≡ None → algorithm_at alg None ≡ algorithm_of alg
 unfolding algorithm_of is_concrete

@@ -91,3 +91,4 @@ Names alg (family.Mac mac) = NamesMac alg mac
 Names alg (family.Cipher mode) = NamesMode alg mode
 Names alg (family.Aead aead) = NamesAead alg aead
 Names alg (family.Derivation derivation) = NamesDerivation alg derivation
+Names alg family.Wrap = Unit {0}

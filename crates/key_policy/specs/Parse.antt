@@ -40,6 +40,7 @@ algorithm_at base tag =
     else if base == 0x04404400 then Some (family.Cipher EcbNoPadding)
     else if base == 0x05400100 then aead_at Ccm tag
     else if base == 0x05400200 then aead_at Gcm tag
+    else if base == 0x80000100 then Some family.Wrap
     else hashed_if (base / 2 ^ 8) (of_low_byte (base % 2 ^ 8)) tag
 
 -- the algorithm that a number names
@@ -52,6 +53,7 @@ class_in (family.Mac mac) = class.Mac
 class_in (family.Cipher mode) = class.Cipher
 class_in (family.Aead aead) = class.Aead
 class_in (family.Derivation derivation) = class.Derivation
+class_in family.Wrap = class.Wrap
 
 abbrev pub is_hmac_in : Algorithm → Bool
 is_hmac_in (family.Mac mac) = not (is_cmac mac.kind)

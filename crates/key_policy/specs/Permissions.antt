@@ -1,7 +1,7 @@
 -- The refusals of a key's uses that the model's tables don't have by themselves, and what a key that may be used is.
 use Rattle.std.specs.Prelude.{ℕ, ◌≡◌, ◌≤◌, false, List, length, take, if◌then◌else◌, Option, Some, None}
 use Rattle.psa_status.specs.{declared.Status.Status, declared.Status.TheVariants.NotPermitted, declared.Status.TheVariants.InvalidHandle, Rows.first_row}
-use Rattle.alg_encoding.specs.{declared.table.Class.Class, declared.table.Class.TheVariants.Cipher, declared.table.Class.TheVariants.Aead, Encoding.base_of, Encoding.is_concrete}
+use Rattle.alg_encoding.specs.{declared.table.Class.Class, declared.table.Class.TheVariants.Cipher, declared.table.Class.TheVariants.Aead, declared.table.Class.TheVariants.Wrap, Encoding.base_of, Encoding.is_concrete}
 use Rattle.crypto_specs.specs.Prelude.{IsKey}
 use Rattle.store_model.specs.Prelude.{Key, is_hmac, cmac_base, derivation_key_rows, export_rows}
 use Rattle.key_policy.specs.Names.{IsOfClass}
@@ -27,3 +27,4 @@ pub record IsKeyFor (class : Class) (alg : ℕ) (bytes : List ℕ) : Type 0 wher
   pub cmac : base_of alg ≡ cmac_base → IsKey bytes
   pub cipher : class ≡ Cipher → IsKey bytes
   pub aead : class ≡ Aead → IsKey bytes
+  pub wrap : class ≡ Wrap → IsKey bytes

@@ -1,9 +1,9 @@
 -- What a key is looked for.
 use Rattle.std.specs.Prelude.{ℕ, ◌≤◌, true, false, List, length, Option}
 use Rattle.psa_status.specs.{declared.Status.Status, Rows.first_row}
-use Rattle.alg_encoding.specs.{declared.algorithm.Alg.Alg, declared.table.Class.Class, declared.table.Class.TheVariants.Mac, declared.table.Class.TheVariants.Cipher, declared.table.Class.TheVariants.Aead}
+use Rattle.alg_encoding.specs.{declared.algorithm.Alg.Alg, declared.table.Class.Class, declared.table.Class.TheVariants.Mac, declared.table.Class.TheVariants.Cipher, declared.table.Class.TheVariants.Aead, declared.table.Class.TheVariants.Wrap}
 use Rattle.store_model.specs.Prelude.{Key, cipher_usage, mac_usage, use_rows}
-use Rattle.service_calls.specs.{declared.handle_calls.Purpose.Purpose, declared.handle_calls.Purpose.TheVariants.SignMac, declared.handle_calls.Purpose.TheVariants.VerifyMac, declared.handle_calls.Purpose.TheVariants.EncryptCipher, declared.handle_calls.Purpose.TheVariants.DecryptCipher, declared.handle_calls.Purpose.TheVariants.EncryptAead, declared.handle_calls.Purpose.TheVariants.DecryptAead}
+use Rattle.service_calls.specs.{declared.handle_calls.Purpose.Purpose, declared.handle_calls.Purpose.TheVariants.SignMac, declared.handle_calls.Purpose.TheVariants.VerifyMac, declared.handle_calls.Purpose.TheVariants.EncryptCipher, declared.handle_calls.Purpose.TheVariants.DecryptCipher, declared.handle_calls.Purpose.TheVariants.EncryptAead, declared.handle_calls.Purpose.TheVariants.DecryptAead, declared.handle_calls.Purpose.TheVariants.WrapKeys, declared.handle_calls.Purpose.TheVariants.UnwrapKeys}
 use Rattle.key_policy.specs.{declared.key_use.KeyUse.KeyUse, declared.key_use.KeyUse.TheVariants.Export, declared.key_use.KeyUse.TheVariants.Algorithm, declared.key_use.KeyUse.TheVariants.Derivation, Permissions.IsKeyFor, Permissions.derivation_refusal, Permissions.export_refusal}
 
 -- what a key is looked for, where an operation or a call has this purpose
@@ -17,6 +17,8 @@ used_for EncryptCipher alg = use_with Cipher (cipher_usage true) alg
 used_for DecryptCipher alg = use_with Cipher (cipher_usage false) alg
 used_for EncryptAead alg = use_with Aead (cipher_usage true) alg
 used_for DecryptAead alg = use_with Aead (cipher_usage false) alg
+used_for WrapKeys alg = use_with Wrap (cipher_usage true) alg
+used_for UnwrapKeys alg = use_with Wrap (cipher_usage false) alg
 
 -- the first refusal of what the map has at an identifier
 abbrev pub use_refusal : KeyUse → Option Key → Option Status

@@ -55,6 +55,8 @@ pub enum Algorithm {
     Cipher(Mode),
     Aead(AeadAlgorithm),
     Derivation(KeyDerivation),
+    /// AES key wrap (RFC 3394).
+    Wrap,
 }
 
 // The MAC whose number states this length.
@@ -104,6 +106,7 @@ fn algorithm_at(base: u32, tag: Option<u8>) -> Option<Algorithm>
         0x0440_4400 => Some(Algorithm::Cipher(Mode::EcbNoPadding)),
         0x0540_0100 => aead(AeadKind::Ccm, tag),
         0x0540_0200 => aead(AeadKind::Gcm, tag),
+        0x8000_0100 => Some(Algorithm::Wrap),
         _ => hashed(base >> 8, Hash::from_low_byte((base & 0xff) as u8)?, tag),
     }
 }
@@ -128,6 +131,7 @@ impl Algorithm {
             Algorithm::Cipher(_) => Class::Cipher,
             Algorithm::Aead(_) => Class::Aead,
             Algorithm::Derivation(_) => Class::Derivation,
+            Algorithm::Wrap => Class::Wrap,
         }
     }
 

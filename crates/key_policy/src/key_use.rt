@@ -42,6 +42,8 @@ impl KeyUse {
             Purpose::DecryptCipher => (Class::Cipher, Usage::DECRYPT),
             Purpose::EncryptAead => (Class::Aead, Usage::ENCRYPT),
             Purpose::DecryptAead => (Class::Aead, Usage::DECRYPT),
+            Purpose::WrapKeys => (Class::Wrap, Usage::ENCRYPT),
+            Purpose::UnwrapKeys => (Class::Wrap, Usage::DECRYPT),
         };
         KeyUse::Algorithm { class, usage, alg }
     }

@@ -78,6 +78,8 @@ model_keyed_setup purpose.EncryptCipher key alg = model.CipherSetup true key alg
 model_keyed_setup purpose.DecryptCipher key alg = model.CipherSetup false key alg
 model_keyed_setup purpose.EncryptAead key alg = model.AeadSetup true key alg
 model_keyed_setup purpose.DecryptAead key alg = model.AeadSetup false key alg
+model_keyed_setup purpose.WrapKeys key alg = model.WrapSetup true key alg
+model_keyed_setup purpose.UnwrapKeys key alg = model.WrapSetup false key alg
 
 abbrev pub model_setup : Setup → model.HandleCall
 model_setup (setup.Keyless s) = model_keyless_setup s
@@ -88,6 +90,8 @@ model_handle_call (call.Setup s) room = model_setup s
 model_handle_call (call.Step s) room = model_step s room
 model_handle_call (call.InputKey step key) room = model.InputKey step key.0
 model_handle_call (call.OutputKey attributes) room = model.OutputKey attributes
+model_handle_call (call.WrapKey key) room = model.WrapKey key.0 room
+model_handle_call (call.UnwrapKey attributes text) room = model.UnwrapKey attributes text.now
 model_handle_call call.Abort room = model.Abort
 
 abbrev pub model_creation : Creation → on_store.Call

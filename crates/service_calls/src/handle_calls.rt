@@ -16,6 +16,8 @@ pub enum Purpose {
     DecryptCipher,
     EncryptAead,
     DecryptAead,
+    WrapKeys,
+    UnwrapKeys,
 }
 
 /// What begins an operation that has no key.
@@ -47,6 +49,11 @@ pub enum HandleCall<'a> {
     Step(Step<'a>),
     InputKey { step: u16, key: KeyId },
     OutputKey(Attributes),
+    WrapKey(KeyId),
+    UnwrapKey {
+        attributes: Attributes,
+        text: &'a [u8],
+    },
     Abort,
 }
 
