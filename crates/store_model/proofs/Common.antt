@@ -21,7 +21,7 @@ pub use Rattle.store_model.specs.CipherOperations.{CipherFinish, CipherGenerateI
 pub use Rattle.store_model.specs.{Creation.created, Creation.created_unless, Creation.identified, Creation.new_id, Creation.new_key, Creation.recorded_of, Creation.room_for_key_rows, Creation.stated_bits_rows, Creation.stated_bytes, Faults.Corrupt, Faults.FaultMark, Faults.Hardware, Faults.Plain, Faults.Storage, Faults.is_of_fault}
 pub use Rattle.store_model.specs.DerivationOperations.{DerivationStep, DerivationWork, GetCapacity, InputBytes, InputInteger, OutputBytes, SetCapacity, VerifyBytes, compared, derivation_step, derivation_work, derived, exhausted, info_step, input_bytes_rows, input_integer_rows, is_due, is_hkdf, is_info_due, is_salt_due, is_secret_due, next_derived, number_or_zero, output_key_rows, output_rows, salt_step, with_key, without}
 pub use Rattle.store_model.specs.HandleCalls.{Abort, AeadSetup, CipherSetup, DerivationSetup, HandleCall, HashSetup, InputKey, MacSetup, OnAead, OnCipher, OnDerivation, OnHash, OnMac, OutputKey, UnwrapKey, WrapKey, WrapSetup, creation_of, derived_key, derived_key_of, handle_step, input_key, input_key_rows, is_setup, made_by_operation, output_key, underived, unwrap_key, unwrapped_key, unwrapped_key_of}
-pub use Rattle.store_model.specs.WrapOperations.{WrapWork, unwrap_key_rows, unwrapped, wrap_key_rows, wrap_key_step, wrap_work}
+pub use Rattle.store_model.specs.WrapOperations.{WrapWork, key_wrapped, unwrap_key_rows, unwrapped, wrap_key_rows, wrap_key_step, wrap_rows, wrap_work}
 pub use Rattle.store_model.specs.Handles.{Authenticating, Ciphering, Deriving, HandleOperation, Hashing, Held, KeyCreation, Own, Sealing, Served, Service, Work, Wrapping, aead_part, applied, cipher_part, derivation_part, hash_part, held_after, is_alive, key_of_operation, mac_part, new_own, next_random, operation_of, own_of, part_of, service_of, stepped, untouched, with_drawn, with_operation, with_own, wrap_part}
 pub use Rattle.store_model.specs.{HashOperations.HashFinish, HashOperations.HashStep, HashOperations.HashUpdate, HashOperations.HashVerify, HashOperations.HashWork, HashOperations.hash_step, HashOperations.hash_work, HashOperations.total_rows, KeyUse.attributes_reply, KeyUse.bytes_of_key, KeyUse.destroy_rows, KeyUse.destroyed, KeyUse.export_rows, KeyUse.purge_reply}
 pub use Rattle.store_model.specs.Laws.{AllowedGoOn, CausesGoOn, CountsOnce, DrawsFewWords, LeavesOtherCallers, LeavesOtherHandles, LeavesSettings, LeavesShared, MarksAlone, RefusalsLeaveAll, RefusalsLeaveBuffers, RefusedSetupsLeaveAll, RulesAreFollowed, UnreadyHandlesStay, handle_of, left_all, may_change_keys}

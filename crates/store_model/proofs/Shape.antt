@@ -1,6 +1,6 @@
 -- The shape of any call on a handle: it leaves all operations, or makes a step of its own, or creates a key.
 use Rattle.std.proofs.Common.{Bool, Err, List, None, Ok, Option, Result, Some, [], ap, arith, cond, false, is_some, length, nat_lt, not, refl, subst, sym, true, ℕ, ◌++◌, ◌∷◌, ◌≡◌, ◌≤◌}
-use Rattle.store_model.proofs.Common.{Abort, Active, AeadSetup, AeadWork, After, AlreadyExists, Attributes, Authenticating, BadState, CipherSetup, CipherWork, Ciphering, Class, DerivationSetup, DerivationWork, Deriving, HandleCall, HandleOperation, HashSetup, HashWork, Hashing, Held, Inactive, InputKey, IsSound, InsufficientData, InsufficientStorage, InvalidArgument, InvalidHandle, InvalidSignature, IsSoundHeld, IsSoundOperation, IsSoundStore, IsSoundUse, IsSoundWork, Key, KeyCreation, KeyLimit, MacSetup, MacWork, NotPermitted, NotSupported, OnAead, OnCipher, OnDerivation, OnHandle, OnHash, OnMac, Operation, OutputKey, UnwrapKey, WrapKey, WrapSetup, WrapWork, Wrapping, Rows, Sealing, Served, Service, Status, Store, Work, aead_part, aead_step, aead_work, applied, bytes_of_key, cipher_part, cipher_step, cipher_usage, cipher_work, class_rows, creation_of, derivation_part, derivation_step, derivation_work, derived_key, derived_key_of, done, ends, fails, first_row, goes_on, handle_step, hash_part, hash_step, hash_work, held_after, input_key, input_key_rows, is_active, is_alive, is_inactive, is_ready, key_of_operation, left_by, mac_part, mac_step, mac_usage, mac_work, made_by_operation, may_change_keys, next_derived, without, unwrap_key, unwrap_key_rows, unwrapped, unwrapped_key, unwrapped_key_of, wrap_key_rows, wrap_key_step, wrap_part, wrap_work, next_random, operation_of, output_key, output_key_rows, part_of, set_up, stated_bytes, stays, stepped, underived, unless, unless-ok, untouched, use_rows, with_key}
+use Rattle.store_model.proofs.Common.{Abort, Active, AeadSetup, AeadWork, After, AlreadyExists, Attributes, Authenticating, BadState, CipherSetup, CipherWork, Ciphering, Class, DerivationSetup, DerivationWork, Deriving, HandleCall, HandleOperation, HashSetup, HashWork, Hashing, Held, Inactive, InputKey, IsSound, InsufficientData, InsufficientStorage, InvalidArgument, InvalidHandle, InvalidSignature, IsSoundHeld, IsSoundOperation, IsSoundStore, IsSoundUse, IsSoundWork, Key, KeyCreation, KeyLimit, MacSetup, MacWork, NotPermitted, NotSupported, OnAead, OnCipher, OnDerivation, OnHandle, OnHash, OnMac, Operation, OutputKey, UnwrapKey, WrapKey, WrapSetup, WrapWork, Wrapping, Rows, Sealing, Served, Service, Status, Store, Work, aead_part, aead_step, aead_work, applied, bytes_of_key, cipher_part, cipher_step, cipher_usage, cipher_work, class_rows, creation_of, derivation_part, derivation_step, derivation_work, derived_key, derived_key_of, done, ends, fails, first_row, goes_on, handle_step, hash_part, hash_step, hash_work, held_after, input_key, input_key_rows, is_active, is_alive, is_inactive, is_ready, key_of_operation, left_by, mac_part, mac_step, mac_usage, mac_work, made_by_operation, may_change_keys, next_derived, without, unwrap_key, unwrap_key_rows, unwrapped, unwrapped_key, unwrapped_key_of, wrap_key_rows, wrap_key_step, wrap_rows, key_wrapped, wrap_part, wrap_work, next_random, operation_of, output_key, output_key_rows, part_of, set_up, stated_bytes, stays, stepped, underived, unless, unless-ok, untouched, use_rows, with_key}
 use Rattle.std.specs.FinMap as map
 use Rattle.alg_encoding.specs.declared.table.Class.TheVariants as class
 use Rattle.store_model.proofs.{Tables.NoFault, Tables.RefusesPlainly, Tables.none_holds, Tables.refuses_plainly, StoreShape.used_plainly, Recorded.MayBeKept, Recorded.OfRefusals, Recorded.then_ok, Recorded.then_refused, Recorded.unless_refused, Recorded.recorded, Recorded.recorded_refused, Buffers.refusal_leaves, DerivedBytes.length-next_derived}
@@ -212,15 +212,17 @@ module _ (service : Service) (caller handle : ℕ) (a : Attributes) (P : Served 
 
 -- A KEY THAT IS WRAPPED
 
-wrap_plainly : (w : WrapWork) (found : Option Key) (room : ℕ) → RefusesPlainly (first_row (wrap_key_rows w found room))
-wrap_plainly w None room = refuses_plainly (wrap_key_rows w None room) refl
-wrap_plainly w (Some key) room = refuses_plainly (wrap_key_rows w (Some key) room) refl
+wrap_plainly : (w : WrapWork) (found : Option Key) → RefusesPlainly (first_row (wrap_key_rows w found))
+wrap_plainly w None = refuses_plainly (wrap_key_rows w None) refl
+wrap_plainly w (Some key) = refuses_plainly (wrap_key_rows w (Some key)) refl
 
 wrap_is_step : (store : Store) (key : Option KeyCreation) (id room : ℕ) (found : Option Key) (w : WrapWork) →
     IsStep (WrapKey id room) store (begun key Wrapping w) (held_after key Wrapping (wrap_key_step w found room))
 wrap_is_step store key id room found w =
-    unless_step store key Wrapping (begun key Wrapping w) (first_row (wrap_key_rows w found room)) _ (wrap_plainly w found room) (λ status refused. refl)
-    (λ passed. goes_step store key Wrapping w w _ refl (λ after. refl) (λ h. h))
+    let n : ℕ = length (bytes_of_key found) in
+    unless_step store key Wrapping (begun key Wrapping w) (first_row (wrap_key_rows w found)) (key_wrapped w (bytes_of_key found) room) (wrap_plainly w found) (λ status refused. refl)
+    (λ passed. unless_step store key Wrapping (begun key Wrapping w) (first_row (wrap_rows n room)) _ (refuses_plainly (wrap_rows n room) refl) (λ status refused. refl)
+    (λ fits. goes_step store key Wrapping w w _ refl (λ after. refl) (λ h. h)))
 
 -- A KEY THAT IS UNWRAPPED
 

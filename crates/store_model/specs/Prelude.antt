@@ -21,7 +21,7 @@ pub use Rattle.store_model.specs.MacOperations.{MacSignFinish, MacUpdate, MacVer
 pub use Rattle.store_model.specs.CipherOperations.{CipherFinish, CipherGenerateIv, CipherSetIv, CipherUpdate, CipherWork, bytes_or_empty, cipher_due, cipher_finish_rows, cipher_fresh, cipher_step, cipher_update_rows, cipher_work, due_deciphered, due_enciphered, generate_iv_rows, is_whole_text, last_length, last_part, set_iv_rows, takes_iv, takes_text, whole_text, with_iv, with_text}
 pub use Rattle.store_model.specs.AeadOperations.{AeadFinish, AeadGenerateNonce, AeadSetLengths, AeadSetNonce, AeadUpdate, AeadUpdateAd, AeadVerify, AeadWork, aead_due, aead_fresh, aead_step, aead_update_rows, aead_work, declared_payload, generate_nonce_rows, is_past_ad, is_past_payload, is_whole_ad, is_whole_payload, nonce_length, set_lengths_rows, set_nonce_rows, takes_nonce, update_ad_rows, whole_rows, with_lengths, with_nonce, with_payload, work_tag}
 pub use Rattle.store_model.specs.DerivationOperations.{DerivationStep, DerivationWork, GetCapacity, InputBytes, InputInteger, OutputBytes, SetCapacity, VerifyBytes, compared, derivation_step, derivation_work, derived, exhausted, info_step, input_bytes_rows, input_integer_rows, is_due, is_hkdf, is_salt_due, is_secret_due, key_step, key_step_rows, next_derived, output_key_rows, output_rows, salt_step, taken_from, takes_bytes, with_bytes, with_key, without}
-pub use Rattle.store_model.specs.WrapOperations.{WrapWork, is_key_data, is_wrapped_length, unwrap_key_rows, unwrapped, wrap_key_rows, wrap_key_step, wrap_work}
+pub use Rattle.store_model.specs.WrapOperations.{WrapWork, is_key_data, key_wrapped, unwrap_key_rows, unwrapped, wrap_key_rows, wrap_key_step, wrap_rows, wrap_work}
 pub use Rattle.store_model.specs.Handles.{Authenticating, Ciphering, Deriving, HandleOperation, Hashing, Held, KeyCreation, Own, Sealing, Served, Service, Work, Wrapping, aead_part, applied, cipher_part, derivation_part, hash_part, held_after, held_with, is_alive, key_of_operation, mac_part, new_own, next_random, operation_of, own_of, part_of, service_of, stepped, untouched, with_drawn, with_operation, with_own, wrap_part}
 pub use Rattle.store_model.specs.HandleCalls.{Abort, AeadSetup, CipherSetup, DerivationSetup, HandleCall, HashSetup, InputKey, MacSetup, OnAead, OnCipher, OnDerivation, OnHash, OnMac, OutputKey, UnwrapKey, WrapKey, WrapSetup, creation_of, derivation_key_rows, derived_key, fits_step, handle_step, input_key, input_key_rows, is_setup, made_by_operation, output_key, underived, unwrap_key, unwrapped_key, unwrapped_key_of}
 pub use Rattle.store_model.specs.Requests.{OnHandle, OnStore, Request, failed_step, on_store, plain_step, serve}
