@@ -1,5 +1,5 @@
 -- An operation that isn't active leaves every state clear.
-use Rattle.operation_handles.proofs.{Common.Active, Common.Aeads, Common.Ciphers, Common.Derivations, Common.EndedOperationsAreClear, Common.Hashes, Common.InError, Common.Inactive, Common.Macs, Common.Operation, Common.is_active, Common.false, Common.◌≡◌, Fresh.all_quiet}
+use Rattle.operation_handles.proofs.{Common.Active, Common.Aeads, Common.Ciphers, Common.Derivations, Common.EndedOperationsAreClear, Common.Hashes, Common.InError, Common.Inactive, Common.Macs, Common.Operation, Common.Wraps, Common.is_active, Common.false, Common.◌≡◌, Fresh.all_quiet}
 use Rattle.multipart.specs.declared.Phase.{Phase}
 use Rattle.multipart.specs.declared.Phase.TheVariants as phase
 use Rattle.multipart.specs.Phases as Phases
@@ -20,10 +20,12 @@ ended c operation h quiet =
     let cipher = all_quiet c.states h.key operation h.are quiet Ciphers in
     let aead = all_quiet c.states h.key operation h.are quiet Aeads in
     let derivation = all_quiet c.states h.key operation h.are quiet Derivations in
+    let wrap = all_quiet c.states h.key operation h.are quiet Wraps in
     record {
       hash = quiet_is_clear c.states.hash.state.phase _ _ hash.own hash.quiet hash.is;
       mac = quiet_is_clear c.states.mac.state.phase _ _ mac.own mac.quiet mac.is;
       cipher = quiet_is_clear c.states.cipher.state.phase _ _ cipher.own cipher.quiet cipher.is;
       aead = quiet_is_clear c.states.aead.state.phase _ _ aead.own aead.quiet aead.is;
       derivation = quiet_is_clear c.states.derivation.state.phase _ _ derivation.own derivation.quiet derivation.is.state;
+      wrap = quiet_is_clear c.states.wrap.state.phase _ _ wrap.own wrap.quiet wrap.is;
     }

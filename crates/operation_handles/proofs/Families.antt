@@ -1,9 +1,10 @@
 -- What one family sees of an operation, and what the states stand for once its own is another.
 use Rattle.std.proofs.Common.{Option, ap, false, inl, inr, refl, subst, sym, ◌∙◌, ◌≡◌, ◌⊎◌}
-use Rattle.operation_handles.proofs.Common.{Active, Aeads, Alg, AreStates, Ciphers, DerivationState, Derivations, Family, FamilyStates, HandleOperation, Hashes, InError, Inactive, IsOperationOf, KeyCreation, Macs, MayHave, Operation, StandsIn, WorkOf, embed_of, held_with, is_active, part_for, part_of}
+use Rattle.operation_handles.proofs.Common.{Active, Aeads, Alg, AreStates, Ciphers, DerivationState, Derivations, Family, FamilyStates, HandleOperation, Hashes, InError, Inactive, IsOperationOf, KeyCreation, Macs, MayHave, Operation, StandsIn, WorkOf, Wraps, embed_of, held_with, is_active, part_for, part_of}
 use Rattle.mac_states.specs.{declared.hash_state.HashOpState.HashOpState, declared.mac_state.MacState.MacState}
 use Rattle.cipher_states.specs.declared.state.CipherState.{CipherState}
 use Rattle.aead_states.specs.declared.state.AeadState.{AeadState}
+use Rattle.wrap_states.specs.declared.state.WrapState.{WrapState}
 
 -- two families are the same or not
 pub which : (f g : Family) → (f ≡ g) ⊎ (f ≡ g → ⊥)
@@ -12,6 +13,7 @@ which Macs Macs = inl refl
 which Ciphers Ciphers = inl refl
 which Aeads Aeads = inl refl
 which Derivations Derivations = inl refl
+which Wraps Wraps = inl refl
 which _ _ = inr (λ e. cc)
 
 -- a family sees its own work whole
@@ -27,6 +29,7 @@ other_part Macs Macs w n = absurd (n refl)
 other_part Ciphers Ciphers w n = absurd (n refl)
 other_part Aeads Aeads w n = absurd (n refl)
 other_part Derivations Derivations w n = absurd (n refl)
+other_part Wraps Wraps w n = absurd (n refl)
 other_part _ _ w n = refl
 
 -- ONE FAMILY'S STATE IS ANOTHER
@@ -42,6 +45,7 @@ StateOf Macs = MacState
 StateOf Ciphers = CipherState
 StateOf Aeads = AeadState
 StateOf Derivations = DerivationState × Alg
+StateOf Wraps = WrapState
 
 abbrev pub put : (f : Family) → FamilyStates → StateOf f → FamilyStates
 put Hashes s state = record s { hash = state }
@@ -49,6 +53,7 @@ put Macs s state = record s { mac = state }
 put Ciphers s state = record s { cipher = state }
 put Aeads s state = record s { aead = state }
 put Derivations s state = record s { derivation = state.0; alg = state.1 }
+put Wraps s state = record s { wrap = state }
 
 pub keeps_put : (f : Family) (s : FamilyStates) (state : StateOf f) → KeepsOtherFamilies f s (put f s state)
 keeps_put f s state = record { others = λ g own n h. still f g state own n h }
@@ -59,6 +64,7 @@ keeps_put f s state = record { others = λ g own n h. still f g state own n h }
     still Ciphers Ciphers state own n h = absurd (n refl)
     still Aeads Aeads state own n h = absurd (n refl)
     still Derivations Derivations state own n h = absurd (n refl)
+    still Wraps Wraps state own n h = absurd (n refl)
     still _ _ state own n h = h
 
 -- WHAT A FAMILY SEES

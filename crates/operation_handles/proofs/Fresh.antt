@@ -1,9 +1,10 @@
 -- Inactive states, and an operation that was set up.
 use Rattle.std.proofs.Common.{rules}
-use Rattle.operation_handles.proofs.Common.{Active, Aeads, After, AreInactive, AreStates, Ciphers, Derivations, Family, FamilyStates, HandleOperation, Hashes, Held, InError, Inactive, IsDerivationOperation, KeyCreation, Macs, MayHave, Operation, StandsIn, Status, Work, WorkOf, embed_of, held_after, held_with, is_active, is_inactive, set_up, None, Option, Some, ap, false, inl, inr, refl, subst, sym, ◌∙◌, ◌≡◌}
+use Rattle.operation_handles.proofs.Common.{Active, Aeads, After, AreInactive, AreStates, Ciphers, Derivations, Family, FamilyStates, HandleOperation, Hashes, Held, InError, Inactive, IsDerivationOperation, KeyCreation, Macs, MayHave, Operation, StandsIn, Status, Work, WorkOf, Wraps, embed_of, held_after, held_with, is_active, is_inactive, set_up, None, Option, Some, ap, false, inl, inr, refl, subst, sym, ◌∙◌, ◌≡◌}
 use Rattle.mac_states.specs.{HashStates.IsHashOperation, MacStates.IsMacOperation}
 use Rattle.cipher_states.specs.States.{IsCipherOperation}
 use Rattle.aead_states.specs.Holding.{IsAeadOperation}
+use Rattle.wrap_states.specs.States.{IsWrapOperation}
 use Rattle.operation_handles.proofs.Families.{KeepsOtherFamilies, which}
 
 -- ALL INACTIVE
@@ -12,12 +13,13 @@ may_be_inactive : (f : Family) → MayHave f None Inactive
 may_be_inactive Hashes = refl
 may_be_inactive _ = tt
 
-pub all_of : (s : FamilyStates) → IsHashOperation s.hash Inactive → IsMacOperation s.mac Inactive → IsCipherOperation s.cipher Inactive → IsAeadOperation s.aead Inactive → IsDerivationOperation s.derivation Inactive → AreInactive s
-all_of s hash mac cipher aead derivation Hashes = hash
-all_of s hash mac cipher aead derivation Macs = mac
-all_of s hash mac cipher aead derivation Ciphers = cipher
-all_of s hash mac cipher aead derivation Aeads = aead
-all_of s hash mac cipher aead derivation Derivations = record { state = derivation; algorithm = tt }
+pub all_of : (s : FamilyStates) → IsHashOperation s.hash Inactive → IsMacOperation s.mac Inactive → IsCipherOperation s.cipher Inactive → IsAeadOperation s.aead Inactive → IsDerivationOperation s.derivation Inactive → IsWrapOperation s.wrap Inactive → AreInactive s
+all_of s hash mac cipher aead derivation wrap Hashes = hash
+all_of s hash mac cipher aead derivation wrap Macs = mac
+all_of s hash mac cipher aead derivation wrap Ciphers = cipher
+all_of s hash mac cipher aead derivation wrap Aeads = aead
+all_of s hash mac cipher aead derivation wrap Derivations = record { state = derivation; algorithm = tt }
+all_of s hash mac cipher aead derivation wrap Wraps = wrap
 
 -- any family's
 pub all_are : (s : FamilyStates) → AreInactive s → AreStates s None Inactive

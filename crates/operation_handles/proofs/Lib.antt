@@ -8,6 +8,8 @@ pub mod Ended
 pub mod Deriving
 pub mod KeyInputs
 pub mod KeyOutputs
+pub mod Wraps
 pub mod Served
 pub mod ServedInputs
 pub mod ServedOutputs
+pub mod ServedWraps

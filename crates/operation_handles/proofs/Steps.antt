@@ -50,7 +50,7 @@ busy_is f key operation alive step w whole =
     ∙ ap (λ o. on_part (Active (record { key = key; work = embed_of f w })) (embed_of f) o alive step) (own_part f w)
     ∙ ap (held_after key (embed_of f)) (live_step alive w step)
 
-sees_work : (f : Family) (key : Option KeyCreation) (operation : HandleOperation) (w : WorkOf f) → operation ≡ Active (record { key = key; work = embed_of f w }) → part_of (part_for f) operation ≡ Active w
+pub sees_work : (f : Family) (key : Option KeyCreation) (operation : HandleOperation) (w : WorkOf f) → operation ≡ Active (record { key = key; work = embed_of f w }) → part_of (part_for f) operation ≡ Active w
 sees_work f key operation w whole = ap (part_of (part_for f)) whole ∙ own_part f w
 
 -- the work is one

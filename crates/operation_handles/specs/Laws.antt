@@ -1,15 +1,16 @@
 -- Laws of operations, and how their calls are those of the model's service.
-use Rattle.std.specs.Prelude.{ℕ, ◌≡◌, Bool, true, false, Some, None}
+use Rattle.std.specs.Prelude.{ℕ, ◌≡◌, Bool, true, false, List, length, Some, None}
 use Rattle.std.specs.FinMap as map
-use Rattle.psa_status.specs.{declared.Status.Status, declared.Status.TheVariants.InvalidHandle}
+use Rattle.psa_status.specs.{declared.Status.Status, declared.Status.TheVariants.BadState, declared.Status.TheVariants.InvalidHandle}
 use Rattle.key_attributes.specs.declared.Attributes.{Attributes}
-use Rattle.key_policy.specs.{declared.key_use.KeyUse.KeyUse, Uses.use_refusal}
+use Rattle.key_policy.specs.{declared.key_use.KeyUse.KeyUse, declared.key_use.KeyUse.TheVariants.Export, Uses.use_refusal}
 use Rattle.derivation_states.specs.KeySteps.{output_key_refusal}
-use Rattle.store_model.specs.Prelude.{done, recorded_of, bytes_of_key, Active, fails, goes_on, DerivationWork, with_key, HandleOperation, Deriving, Service, applied, derivation_part, is_alive, key_of_operation, operation_of, part_of, InputKey, OutputKey, creation_of, derived_key, handle_step, next_random}
+use Rattle.store_model.specs.Prelude.{done, recorded_of, bytes_of_key, Active, fails, goes_on, DerivationWork, with_key, HandleOperation, Deriving, Service, applied, derivation_part, is_alive, key_of_operation, operation_of, part_of, InputKey, OutputKey, UnwrapKey, WrapKey, WrapWork, creation_of, derived_key, unwrapped, unwrapped_key, wrap_part, handle_step, next_random}
 use Rattle.store_model.specs.DerivationOperations.{stated_bytes}
 use Rattle.service_calls.specs.{Meanings.model_setup, Meanings.model_step, declared.handle_calls.Setup.Setup, declared.steps.Step.Step}
 use Rattle.multipart.specs.Turns.{is_active}
-use Rattle.operation_handles.specs.{States.AreClear, Handles.IsOperation, Setups.set_up_by, Steps.stepped_by, KeyInputs.RefusesKeyAt, KeyInputs.TakesKeyAt, KeyInputs.key_refused, KeyOutputs.derived_key_refused, declared.handle.OperationHandle.OperationHandle}
+use Rattle.wrap_states.specs.Calls.{unwrap_refusal, wraps_keys}
+use Rattle.operation_handles.specs.{States.AreClear, Handles.IsOperation, Setups.set_up_by, Steps.stepped_by, KeyInputs.RefusesKeyAt, KeyInputs.TakesKeyAt, KeyInputs.key_refused, KeyOutputs.derived_key_refused, Wraps.wrapped_by, Wraps.wrapping_refused, declared.handle.OperationHandle.OperationHandle}
 
 abbrev pub EndedOperationsAreClear : Type 0
 EndedOperationsAreClear = (c : OperationHandle) (operation : HandleOperation) → IsOperation c operation → is_active operation ≡ false → AreClear c.states
@@ -64,3 +65,46 @@ pub record KeyOutputsAreTheModels : Type 0 where
       output_key_refusal (part_of derivation_part (operation_of service caller handle)) a ≡ None →
       handle_step service caller handle (OutputKey a)
       ≡ derived_key service caller handle (key_of_operation (operation_of service caller handle)) w (stated_bytes a) (recorded_of service.store caller a (stated_bytes a))
+
+-- KEYS THAT ARE WRAPPED
+
+-- whether a handle's operation is active and wraps keys
+abbrev pub wraps_at : Service → (caller handle : ℕ) → Bool
+wraps_at service caller handle = wraps_keys (part_of wrap_part (operation_of service caller handle))
+
+pub record KeyWrapsAreTheModels : Type 0 where
+  -- refused before a key is looked for
+  pub untimely : (service : Service) (caller handle id room : ℕ) → wraps_at service caller handle ≡ false →
+      handle_step service caller handle (WrapKey id room)
+      ≡ applied service caller handle (wrapping_refused (has_live_key service caller handle) (operation_of service caller handle) BadState)
+  -- the operation's own key is gone
+  pub lost : (service : Service) (caller handle id room : ℕ) → wraps_at service caller handle ≡ true → has_live_key service caller handle ≡ false →
+      handle_step service caller handle (WrapKey id room) ≡ applied service caller handle (fails InvalidHandle)
+  -- looked at, and refused
+  pub unfit : (service : Service) (caller handle id room : ℕ) (status : Status) → wraps_at service caller handle ≡ true → has_live_key service caller handle ≡ true →
+      use_refusal Export (map.get service.store.keys id) ≡ Some status →
+      handle_step service caller handle (WrapKey id room) ≡ applied service caller handle (fails status)
+  -- taken
+  pub taken : (service : Service) (caller handle id room : ℕ) → wraps_at service caller handle ≡ true → has_live_key service caller handle ≡ true →
+      use_refusal Export (map.get service.store.keys id) ≡ None →
+      handle_step service caller handle (WrapKey id room)
+      ≡ applied service caller handle (wrapped_by (operation_of service caller handle) (bytes_of_key (map.get service.store.keys id)) room)
+
+-- KEYS THAT ARE UNWRAPPED
+
+pub record KeyUnwrapsAreTheModels : Type 0 where
+  -- refused by the operation
+  pub refused : (service : Service) (caller handle : ℕ) (a : Attributes) (text : List ℕ) (status : Status) →
+      unwrap_refusal (part_of wrap_part (operation_of service caller handle)) a text ≡ Some status →
+      handle_step service caller handle (UnwrapKey a text)
+      ≡ applied service caller handle (wrapping_refused (has_live_key service caller handle) (operation_of service caller handle) status)
+  -- the operation's own key is gone
+  pub lost : (service : Service) (caller handle : ℕ) (a : Attributes) (text : List ℕ) (w : WrapWork) →
+      part_of wrap_part (operation_of service caller handle) ≡ Active w → has_live_key service caller handle ≡ false →
+      handle_step service caller handle (UnwrapKey a text) ≡ applied service caller handle (fails InvalidHandle)
+  -- to be created
+  pub due : (service : Service) (caller handle : ℕ) (a : Attributes) (text : List ℕ) (w : WrapWork) →
+      part_of wrap_part (operation_of service caller handle) ≡ Active w → has_live_key service caller handle ≡ true →
+      unwrap_refusal (part_of wrap_part (operation_of service caller handle)) a text ≡ None →
+      handle_step service caller handle (UnwrapKey a text)
+      ≡ unwrapped_key service caller handle (key_of_operation (operation_of service caller handle)) w (unwrapped w text) (recorded_of service.store caller a (length (unwrapped w text)))

@@ -7,4 +7,5 @@ pub mod Setups
 pub mod Steps
 pub mod KeyInputs
 pub mod KeyOutputs
+pub mod Wraps
 pub mod Laws

@@ -5,7 +5,7 @@ use Rattle.psa_status.specs.{Rows.first_row, declared.Status.Status}
 use Rattle.alg_encoding.specs.declared.algorithm.Alg.{Alg}
 use Rattle.alg_encoding.specs.declared.table.Class.TheVariants as class
 use Rattle.key_policy.specs.Uses.{use_refusal, used_for}
-use Rattle.store_model.specs.Prelude.{Key, Store, bytes_of_key, class_rows, creation_of, hash_work, mac_work, cipher_work, aead_work, derivation_work, After, Active, set_up, Held, HandleOperation, KeyCreation, Work, Hashing, Authenticating, Ciphering, Sealing, Deriving}
+use Rattle.store_model.specs.Prelude.{Key, Store, bytes_of_key, class_rows, creation_of, hash_work, mac_work, cipher_work, aead_work, derivation_work, wrap_work, After, Active, set_up, Held, HandleOperation, KeyCreation, Work, Hashing, Authenticating, Ciphering, Sealing, Deriving, Wrapping}
 use Rattle.service_calls.specs.{declared.handle_calls.KeyedSetup.KeyedSetup, declared.handle_calls.KeylessSetup.KeylessSetup, declared.handle_calls.Purpose.Purpose, declared.handle_calls.Setup.Setup, declared.handle_calls.Setup.TheVariants.Keyless, declared.handle_calls.Setup.TheVariants.Keyed}
 use Rattle.service_calls.specs.declared.handle_calls.KeylessSetup.TheVariants as keyless
 use Rattle.service_calls.specs.declared.handle_calls.Purpose.TheVariants as purpose
@@ -33,6 +33,8 @@ work_begun purpose.EncryptCipher alg bytes = Ciphering (cipher_work true alg byt
 work_begun purpose.DecryptCipher alg bytes = Ciphering (cipher_work false alg bytes)
 work_begun purpose.EncryptAead alg bytes = Sealing (aead_work true alg bytes)
 work_begun purpose.DecryptAead alg bytes = Sealing (aead_work false alg bytes)
+work_begun purpose.WrapKeys alg bytes = Wrapping (wrap_work true bytes)
+work_begun purpose.UnwrapKeys alg bytes = Wrapping (wrap_work false bytes)
 
 -- the operation that begins with a key, of these bytes
 abbrev pub begun_with : Purpose → Alg → KeyCreation → List ℕ → HandleOperation

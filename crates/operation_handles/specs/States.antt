@@ -5,7 +5,8 @@ use Rattle.mac_states.specs.{HashStates.IsHashOperation, HashStates.IsClearHash,
 use Rattle.cipher_states.specs.States.{IsCipherOperation, IsClearCipher}
 use Rattle.aead_states.specs.Holding.{IsAeadOperation, IsClearAead}
 use Rattle.derivation_states.specs.States.{IsClearDerivation}
-use Rattle.operation_handles.specs.{Families.Family, Families.Hashes, Families.Macs, Families.Ciphers, Families.Aeads, Families.Derivations, Families.WorkOf, Families.embed_of, Derivations.IsDerivation, declared.states.FamilyStates.FamilyStates}
+use Rattle.wrap_states.specs.States.{IsClearWrap, IsWrapOperation}
+use Rattle.operation_handles.specs.{Families.Family, Families.Hashes, Families.Macs, Families.Ciphers, Families.Aeads, Families.Derivations, Families.Wraps, Families.WorkOf, Families.embed_of, Derivations.IsDerivation, declared.states.FamilyStates.FamilyStates}
 
 -- a family's state stands for an operation
 abbrev pub StandsIn : (family : Family) → FamilyStates → Operation (WorkOf family) → Type 0
@@ -14,14 +15,16 @@ StandsIn Macs s own = IsMacOperation s.mac own
 StandsIn Ciphers s own = IsCipherOperation s.cipher own
 StandsIn Aeads s own = IsAeadOperation s.aead own
 StandsIn Derivations s own = IsDerivation s.alg.0 s.derivation own
+StandsIn Wraps s own = IsWrapOperation s.wrap own
 
 abbrev pub AreInactive : FamilyStates → Type 0
 AreInactive s = (family : Family) → StandsIn family s Inactive
 
--- a hash has no key, and an active derivation that has a key has its secret
+-- a hash has no key, an active derivation that has a key has its secret, and an active key wrap has a key
 abbrev pub MayHave : (family : Family) → Option KeyCreation → Operation (WorkOf family) → Type 0
 MayHave Hashes key own = key ≡ None
 MayHave Derivations key (Active w) = is_some key ≡ true → is_some w.secret ≡ true
+MayHave Wraps key (Active w) = is_some key ≡ true
 MayHave _ key own = Unit {0}
 
 -- the handle's operation is that of this family's state, held with a key; all other states are inactive
@@ -43,3 +46,4 @@ pub record AreClear (s : FamilyStates) : Type 0 where
   pub cipher : IsClearCipher s.cipher
   pub aead : IsClearAead s.aead
   pub derivation : IsClearDerivation s.derivation
+  pub wrap : IsClearWrap s.wrap

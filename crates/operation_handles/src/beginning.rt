@@ -1,9 +1,10 @@
 // What begins an operation.
 ghost use Rattle.std.specs.Prelude.{◌≡◌, Some, None};
+ghost use Rattle.crypto_specs.specs.Prelude.{IsKey};
 ghost use Rattle.secret_bytes.specs.Buffer.{bytes_of};
 ghost use Rattle.key_policy.specs.Uses.{FitsUse, used_for};
 ghost use Rattle.service_calls.specs.Answers.{plain_reply};
-ghost use Rattle.store_model.specs.Prelude.{HandleOperation, KeyCreation, Inactive};
+ghost use Rattle.store_model.specs.Prelude.{Active, HandleOperation, Inactive, KeyCreation, Wrapping, wrap_work};
 ghost use Rattle.operation_handles.specs.{Handles.IsOperation, Setups.begun_with, Setups.set_up_without_key, States.AreInactive, States.AreStates};
 
 use crate::handle::OperationHandle;
@@ -28,6 +29,16 @@ impl FamilyStates {
         }
     }
 
+    // Sets up an operation that wraps keys, or unwraps texts.
+    fn wrap_setup(&mut self, wraps: bool, key: &[u8]) -> Result<(), Status>
+        requires { IsKey key.now }
+        ensures { (creation : KeyCreation) → AreInactive self.old →
+            AreStates self.new (Some creation) (Active (record { key = Some creation; work = Wrapping (wrap_work wraps key.now) })) }
+    {
+        self.wrap.set_up(wraps, key);
+        Ok(())
+    }
+
     // Sets up an operation with the bytes of its key, which are for it: no state refuses them.
     fn begin_with(
         &mut self,
@@ -46,6 +57,8 @@ impl FamilyStates {
             Purpose::DecryptCipher => self.cipher.cipher_decrypt_setup(key, alg),
             Purpose::EncryptAead => self.aead.aead_encrypt_setup(key, alg),
             Purpose::DecryptAead => self.aead.aead_decrypt_setup(key, alg),
+            Purpose::WrapKeys => self.wrap_setup(true, key),
+            Purpose::UnwrapKeys => self.wrap_setup(false, key),
         }
     }
 }

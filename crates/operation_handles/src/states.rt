@@ -11,8 +11,9 @@ use derivation_states::DerivationState;
 use mac_states::{HashOpState, MacState};
 use psa_status::Memory;
 use std::alloc::Global;
+use wrap_states::WrapState;
 
-/// The states of all families side by side, of which one at most isn't inactive. A MAC's, a cipher's and an AEAD's is made
+/// The states of all families side by side, of which one at most isn't inactive. A MAC's, a cipher's, an AEAD's and a key wrap's is made
 /// when a first one begins, and stays in its place, where a wipe clears it. What takes memory is there from the start.
 #[derive(Drop)]
 pub struct FamilyStates {
@@ -23,6 +24,7 @@ pub struct FamilyStates {
     pub(crate) derivation: DerivationState,
     /// The algorithm of an active derivation.
     pub(crate) alg: Alg,
+    pub(crate) wrap: WrapState,
 }
 
 impl FamilyStates {
@@ -38,6 +40,7 @@ impl FamilyStates {
             aead: AeadState::new(),
             derivation,
             alg: Alg(0),
+            wrap: WrapState::new(),
         })
     }
 
@@ -51,6 +54,7 @@ impl FamilyStates {
             & self.cipher.is_inactive()
             & self.aead.is_inactive()
             & self.derivation.is_inactive()
+            & self.wrap.is_inactive()
     }
 
     // Whether the operation is active.
@@ -63,6 +67,7 @@ impl FamilyStates {
             | self.cipher.is_active()
             | self.aead.is_active()
             | self.derivation.is_active()
+            | self.wrap.is_active()
     }
 
     // Forgets everything: all are inactive.
@@ -75,5 +80,6 @@ impl FamilyStates {
         self.aead.wipe();
         self.derivation.wipe();
         self.alg = Alg(0);
+        self.wrap.wipe();
     }
 }

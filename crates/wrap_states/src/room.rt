@@ -8,5 +8,5 @@ pub const KEY_ROOM: usize = 1024;
 pub fn wipe_room(room: &mut [u8; KEY_ROOM])
     ensures { room.new ≡ replicate 1024 0 }
 {
-    room.fill(0);
+    *room = [0; KEY_ROOM];
 }

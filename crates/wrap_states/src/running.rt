@@ -1,5 +1,5 @@
 // What wraps keys, or unwraps them.
-ghost use Rattle.std.specs.{Prelude.◌≡◌, Prelude.◌-◌, Prelude.ℕ, Prelude.List, Prelude.[], Prelude.◌∷◌, Prelude.IsTrue, Prelude.IfOk, Prelude.OnErr, Prelude.length, Prelude.replicate, Prelude.take, Result.result_err};
+ghost use Rattle.std.specs.{Prelude.◌≡◌, Prelude.◌-◌, Prelude.ℕ, Prelude.List, Prelude.[], Prelude.◌∷◌, Prelude.IsTrue, Prelude.false, Prelude.IfOk, Prelude.OnErr, Prelude.length, Prelude.replicate, Prelude.take, Result.result_err};
 ghost use Rattle.crypto_specs.specs.{Prelude.IsKey, Prelude.aes_encrypt, KeyWrap.wrap};
 ghost use Rattle.psa_status.specs.Rows.{first_row};
 ghost use Rattle.store_model.specs.Prelude.{WrapWork, buffer_after, given, is_key_data, key_wrapped, reply_unless, unwrap_key_rows, unwrapped, wrap_rows, wrap_work};

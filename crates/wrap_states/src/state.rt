@@ -98,11 +98,11 @@ impl WrapState {
     /// Writes the wrap of a key that may be exported to the front of a buffer. A refusal puts the operation in error.
     pub fn wrap_key(&mut self, key: KeyData<'_>, out: &mut [u8]) -> Result<Output, Status>
         ensures state { (op : Operation WrapWork) → IsWrapOperation self.old op →
-            IsWrapOperation self.new (on_active op (λ w. key_wrapped w key.0.now (length out.old))).operation }
+            IsWrapOperation self.new (on_active op (λ w. key_wrapped w key.entry.0.now (length out.old))).operation }
         ensures reply { (op : Operation WrapWork) → IsWrapOperation self.old op →
-            AnswersReply result (on_active op (λ w. key_wrapped w key.0.now (length out.old))).reply }
+            AnswersReply result (on_active op (λ w. key_wrapped w key.entry.0.now (length out.old))).reply }
         ensures buffer { (op : Operation WrapWork) → IsWrapOperation self.old op →
-            out.new ≡ buffer_after out.old (on_active op (λ w. key_wrapped w key.0.now (length out.old))).reply }
+            out.new ≡ buffer_after out.old (on_active op (λ w. key_wrapped w key.entry.0.now (length out.old))).reply }
     {
         self.state.step(key, &[0; 16], out)
     }

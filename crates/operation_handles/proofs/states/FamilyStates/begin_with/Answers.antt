@@ -45,3 +45,15 @@ aead_decrypt_setup-requires c = let fits = for_purpose _ _ c.args.alg c.args.key
 pub returns-in-DecryptAead : goal.returns-in-DecryptAead
 returns-in-DecryptAead c = λ key all. rw c.in-DecryptAead.is
     (set_up_of Aeads c.args.self.now (put Aeads c.args.self.now c.aead_decrypt_setup.new.self) (Some key) (Active (aead_work false c.args.alg.0 c.args.key.now)) (keeps_put Aeads c.args.self.now c.aead_decrypt_setup.new.self) all (c.aead_decrypt_setup.ensures.state Inactive (all Aeads)) tt)
+
+pub wrap_setup-requires : goal.wrap_setup-requires
+wrap_setup-requires c = let fits = for_purpose _ _ c.args.alg c.args.key.now c.in-WrapKeys.is c.requires.fits in fits.wrap refl
+
+pub returns-in-WrapKeys : goal.returns-in-WrapKeys
+returns-in-WrapKeys c = λ key all. rw c.in-WrapKeys.is (c.wrap_setup.ensures key all)
+
+pub wrap_setup-in-UnwrapKeys-requires : goal.wrap_setup-in-UnwrapKeys-requires
+wrap_setup-in-UnwrapKeys-requires c = let fits = for_purpose _ _ c.args.alg c.args.key.now c.in-UnwrapKeys.is c.requires.fits in fits.wrap refl
+
+pub returns-in-UnwrapKeys : goal.returns-in-UnwrapKeys
+returns-in-UnwrapKeys c = λ key all. rw c.in-UnwrapKeys.is (c.wrap_setup-in-UnwrapKeys.ensures key all)

@@ -1,0 +1,17 @@
+-- Calls on a handle's wrapping operation.
+use Rattle.std.specs.Prelude.{ℕ, ◌≡◌, ◌⊎◌, false, List, Some}
+use Rattle.psa_status.specs.{declared.Status.Status, declared.Status.TheVariants.BadState}
+use Rattle.key_attributes.specs.declared.Attributes.{Attributes}
+use Rattle.wrap_states.specs.Calls.{unwrap_refusal, wraps_keys}
+use Rattle.store_model.specs.Prelude.{HandleOperation, OnHandle, Request, UnwrapKey, WrapKey, part_of, wrap_part}
+use Rattle.callers.specs.{Handles.AreOperations, Handles.operation_at, declared.caller.Caller.Caller}
+
+-- what a handle's operation refuses with this status, before a key is looked for or made
+abbrev pub RefusesCall : HandleOperation → (op : ℕ) → Request → Status → Type 0
+RefusesCall operation op request status =
+    ((id room : ℕ) × (request ≡ OnHandle op (WrapKey id room)) × (wraps_keys (part_of wrap_part operation) ≡ false) × (status ≡ BadState))
+    ⊎ ((a : Attributes) × (text : List ℕ) × (request ≡ OnHandle op (UnwrapKey a text)) × (unwrap_refusal (part_of wrap_part operation) a text ≡ Some status))
+
+abbrev pub RefusesWrapping : {D A C : Type 0} → Caller D A C → (op : ℕ) → Request → Status → Type 0
+RefusesWrapping caller op request status =
+    (operations : List HandleOperation) → AreOperations caller.handles.list.items operations → RefusesCall (operation_at operations op) op request status
