@@ -6,7 +6,7 @@ ghost use Rattle.store_model.specs.Prelude.{WrapWork, buffer_after, given, is_ke
 ghost use Rattle.key_policy.specs.Keys.{is_key};
 ghost use Rattle.wrap_states.specs.States.{HoldsWrap, IsClearRunningWrap};
 
-use crate::room::KEY_ROOM;
+use crate::room::{KEY_ROOM, wipe_room};
 use aes_core::AesKey;
 use key_attributes::Attributes;
 use key_policy::aes_key;
@@ -91,11 +91,11 @@ impl RunningWrap {
             return Err(Status::NotSupported);
         }
         let length = text.len() - 8;
-        if unwrap(&self.key, text, &mut out[..length]) {
-            Ok(length)
-        } else {
-            Err(Status::InvalidSignature)
+        if !unwrap(&self.key, text, &mut out[..length]) {
+            wipe_room(out);
+            return Err(Status::InvalidSignature);
         }
+        Ok(length)
     }
 }
 
