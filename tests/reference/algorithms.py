@@ -7,6 +7,7 @@ CMAC = 0x03C00200
 CTR, CBC, CBC_PKCS7, ECB = 0x04C01000, 0x04404000, 0x04404100, 0x04404400
 CCM, GCM = 0x05400100, 0x05400200
 HKDF, PBKDF2 = 0x08000100, 0x08800100
+KEY_WRAP = 0x80000100
 TAG_LENGTHS = {CCM: (4, 6, 8, 10, 12, 14, 16), GCM: (4, 8, 12, 13, 14, 15, 16)}
 LENGTH_FIELD, AT_LEAST = 0x003F0000, 0x00008000
 
@@ -31,6 +32,8 @@ def class_of(alg):
         return "cipher"
     if alg & ~0xFF in (HKDF, PBKDF2) and alg & 0xFF in HASHES:
         return "derivation"
+    if alg == KEY_WRAP:
+        return "wrap"
     if base(alg) in HMACS or base(alg) == CMAC:
         return "mac"
     return "aead" if base(alg) in TAG_LENGTHS else None

@@ -8,7 +8,7 @@ pub mod Ended
 pub mod Deriving
 pub mod KeyInputs
 pub mod KeyOutputs
-pub mod Wraps
+pub mod KeyWraps
 pub mod Served
 pub mod ServedInputs
 pub mod ServedOutputs

@@ -57,6 +57,7 @@ algorithms =
     ∷ (0x08800109, codes "PBKDF2_HMAC(SHA_256)")
     ∷ (0x0880010a, codes "PBKDF2_HMAC(SHA_384)")
     ∷ (0x0880010b, codes "PBKDF2_HMAC(SHA_512)")
+    ∷ (0x80000100, codes "KW")
     ∷ []
 
 -- a persistence, and behind an `@` its location where it isn't the local one (this project's own way to write both)

@@ -58,6 +58,7 @@ const ALGORITHMS: &[Name] = names![
     0x0880_0109 b"PBKDF2_HMAC(SHA_256)",
     0x0880_010a b"PBKDF2_HMAC(SHA_384)",
     0x0880_010b b"PBKDF2_HMAC(SHA_512)",
+    0x8000_0100 b"KW",
 ];
 
 const LIFETIMES: &[Name] = names![

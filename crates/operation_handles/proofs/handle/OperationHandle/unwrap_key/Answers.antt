@@ -1,4 +1,4 @@
-use Rattle.operation_handles.proofs.{Common.Wraps, Families.keeps_all, Steps.seen, Wraps.unwrap_refusal_is}
+use Rattle.operation_handles.proofs.{Common.Wraps, Families.keeps_all, Steps.seen, KeyWraps.unwrap_refusal_is}
 use Rattle.operation_handles.proofs.handle.OperationHandle.unwrap_key.Goals as goal
 
 pub returns : goal.returns

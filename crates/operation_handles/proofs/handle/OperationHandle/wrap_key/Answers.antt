@@ -1,7 +1,7 @@
 use Rattle.operation_handles.proofs.{Common.After, Common.OperationHandle, Common.Wraps, Common.buffer_after, Common.length, Common.refl, Common.true, Common.◌≡◌, Families.keeps_put, Steps.step_is, Steps.step_reply}
 use Rattle.service_calls.specs.Answered.{AnswersReply}
 use Rattle.store_model.specs.Prelude.{WrapWork, key_wrapped}
-use Rattle.operation_handles.proofs.Wraps.{wrapped_has}
+use Rattle.operation_handles.proofs.KeyWraps.{wrapped_has}
 use Rattle.operation_handles.proofs.handle.OperationHandle.wrap_key.Goals as goal
 
 pub returns : goal.returns

@@ -1,4 +1,4 @@
-use Rattle.operation_handles.proofs.Wraps.{wraps_is, wraps_leased}
+use Rattle.operation_handles.proofs.KeyWraps.{wraps_is, wraps_leased}
 use Rattle.operation_handles.proofs.Common.{sym, ◌∙◌}
 use Rattle.operation_handles.proofs.handle.OperationHandle.wraps_keys.Goals as goal
 
