@@ -66,7 +66,9 @@ lost_key f key InError e = (in_error f, refl)
 lost_key f key (Active w) e = cc
 
 pub over : (s : FamilyStates) (key : Option KeyCreation) (operation : HandleOperation) → AreStates s key operation → is_active operation ≡ false → AreStates s None operation
-over s key operation h e = search rules
+over s key operation h e =
+    let lost = lost_key h.family key h.stands.own (ap is_active (sym h.stands.whole) ∙ e) in
+    record { family = h.family; stands = record { own = h.stands.own; is = h.stands.is; has = lost.0; whole = h.stands.whole ∙ lost.1; others = h.stands.others } }
 
 -- each state of such an operation stands for one that isn't active
 

@@ -2,7 +2,7 @@
 use Rattle.std.proofs.Common.{rules}
 use Rattle.operation_handles.proofs.Common.{Alg, AreInactive, AreStates, begun_with, bytes_of, HandleOperation, Inactive, is_active, IsOperation, KeyCreation, OperationHandle, option_map, Purpose, Reading, set_up_without_key, None, Option, Some, ap, false, subst, sym, ◌∙◌, ◌≡◌}
 use Rattle.service_calls.specs.declared.handle_calls.KeylessSetup.{KeylessSetup}
-use Rattle.operation_handles.proofs.Fresh.{all_are, all_inactive}
+use Rattle.operation_handles.proofs.Fresh.{all_are, all_inactive, over}
 
 -- the key of a lease
 abbrev HasLease : Option Reading → Option KeyCreation → Type 0
@@ -35,4 +35,8 @@ leased_as d operation reading key kept number are = record { key = Some key; lea
 
 -- an operation that is over may go without its lease
 pub settled : (c d : OperationHandle) (operation : HandleOperation) → d.states ≡ c.states → d.lease ≡ None → is_active operation ≡ false → IsOperation c operation → IsOperation d operation
-settled c d operation same none ended h = search rules
+settled c d operation same none ended h = record {
+  key = None;
+  leased = without_lease d.lease none;
+  are = subst (λ s. AreStates s None operation) (sym same) (over c.states h.key operation h.are ended);
+}

@@ -1,7 +1,7 @@
 -- Keys that a handle's operation wraps or unwraps, as the service serves them.
-use Rattle.operation_handles.proofs.Common.{Active, After, Attributes, BadState, Bool, HandleOperation, Held, InError, Inactive, InvalidHandle, Key, List, NotPermitted, NotSupported, None, Operation, Option, Service, Some, Status, [], ap, applied, bytes_of_key, cond, fails, false, first_row, has_live_key, held_after, is_alive, key_of_operation, length, not, on_part, operation_of, part_of, recorded_of, refl, stays, sym, true, unless, unless_failed, use_refusal, with_live_key, wrap_part, ℕ, ◌∙◌, ◌∷◌, ◌≡◌}
+use Rattle.operation_handles.proofs.Common.{Active, After, Attributes, BadState, Bool, HandleOperation, Held, InError, Inactive, InvalidHandle, Key, List, NotPermitted, NotSupported, None, Operation, Option, Served, Service, Some, Status, [], ap, applied, bytes_of_key, cond, fails, false, first_row, has_live_key, held_after, is_alive, key_of_operation, length, not, on_part, operation_of, part_of, recorded_of, refl, stays, sym, true, unless, unless_failed, use_refusal, with_live_key, wrap_part, ℕ, ◌∙◌, ◌∷◌, ◌≡◌}
 use Rattle.std.proofs.Common.{arith, nat_lt}
-use Rattle.std.proofs.lemmas.Bool.{ltb-false}
+use Rattle.std.proofs.lemmas.Bool.{le-ltb}
 use Rattle.std.specs.FinMap as map
 use Rattle.psa_status.specs.{Rows.◌>>=◌, declared.Status.TheVariants.BufferTooSmall}
 use Rattle.key_policy.specs.declared.key_use.KeyUse.TheVariants.{Export}
@@ -19,7 +19,7 @@ with_room false false short e = ap (λ c. first_row ((c, BufferTooSmall) ∷ [])
 
 exported_is : (found : Option Key) → first_row (export_rows found (length (bytes_of_key found))) ≡ use_refusal Export found
 exported_is None = refl
-exported_is (Some key) = with_room _ _ (nat_lt (length key.bytes) (length key.bytes)) (ltb-false (length key.bytes) (length key.bytes) (omega arith))
+exported_is (Some key) = with_room _ _ (nat_lt (length key.bytes) (length key.bytes)) (le-ltb (length key.bytes) (length key.bytes) (omega arith))
 
 -- KEYS THAT ARE WRAPPED
 
@@ -88,12 +88,12 @@ wraps = record {
 -- KEYS THAT ARE UNWRAPPED
 
 -- what comes of a text by the first refusal of the operation's
-abbrev unwrapped_by : Service → (caller handle : ℕ) → WrapWork → Attributes → List ℕ → Option Status → _
+abbrev unwrapped_by : Service → (caller handle : ℕ) → WrapWork → Attributes → List ℕ → Option Status → Served
 unwrapped_by service caller handle w a text refused =
     unwrapped_key service caller handle (key_of_operation (operation_of service caller handle)) w (unwrapped w text)
     (unless refused a >>= (λ stated. recorded_of service.store caller stated (length (unwrapped w text))))
 
-abbrev unwrapped_if : Service → (caller handle : ℕ) → WrapWork → Attributes → List ℕ → Bool → _
+abbrev unwrapped_if : Service → (caller handle : ℕ) → WrapWork → Attributes → List ℕ → Bool → Served
 unwrapped_if service caller handle w a text alive = unwrapped_by service caller handle w a text (first_row ((not alive, InvalidHandle) ∷ unwrap_key_rows w a text))
 
 refused_if : (service : Service) (caller handle : ℕ) (w : WrapWork) (a : Attributes) (text : List ℕ) (status : Status) (alive : Bool) → first_row (unwrap_key_rows w a text) ≡ Some status →

@@ -52,8 +52,8 @@ wrap_setup-requires c = let fits = for_purpose _ _ c.args.alg c.args.key.now c.i
 pub returns-in-WrapKeys : goal.returns-in-WrapKeys
 returns-in-WrapKeys c = λ key all. rw c.in-WrapKeys.is (c.wrap_setup.ensures key all)
 
-pub wrap_setup-in-UnwrapKeys-requires : goal.wrap_setup-in-UnwrapKeys-requires
-wrap_setup-in-UnwrapKeys-requires c = let fits = for_purpose _ _ c.args.alg c.args.key.now c.in-UnwrapKeys.is c.requires.fits in fits.wrap refl
+pub wrap_setup-requires-in-UnwrapKeys : goal.wrap_setup-requires-in-UnwrapKeys
+wrap_setup-requires-in-UnwrapKeys c = let fits = for_purpose _ _ c.args.alg c.args.key.now c.in-UnwrapKeys.is c.requires.fits in fits.wrap refl
 
 pub returns-in-UnwrapKeys : goal.returns-in-UnwrapKeys
 returns-in-UnwrapKeys c = λ key all. rw c.in-UnwrapKeys.is (c.wrap_setup-in-UnwrapKeys.ensures key all)
