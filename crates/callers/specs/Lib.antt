@@ -7,5 +7,4 @@ pub mod Parts
 pub mod Budget
 pub mod HandleCalls
 pub mod Served
-pub mod Wrapping
 pub mod Prelude

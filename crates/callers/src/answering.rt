@@ -112,12 +112,6 @@ impl<D: Disk, A: Devices, C: Admission> Caller<D, A, C> {
             Call::OnHandle(op, HandleCall::OutputKey(attributes)) => {
                 self.output_key(rt, shared, gate, call, room, op, attributes)
             }
-            Call::OnHandle(op, HandleCall::WrapKey(key)) => {
-                self.wrap_key(rt, shared, gate, call, op, key, out)
-            }
-            Call::OnHandle(op, HandleCall::UnwrapKey { attributes, text }) => {
-                self.unwrap_key(rt, shared, gate, call, room, op, attributes, text)
-            }
             Call::OnHandle(op, HandleCall::Abort) => {
                 let rank = self.abort(rt, shared, call, room, op);
                 (rank, Ok(Output::Done))

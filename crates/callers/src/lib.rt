@@ -26,8 +26,6 @@ mod keys;
 mod one_part;
 mod operations;
 mod turns;
-mod wrapping;
-mod wraps;
 
 pub use caller::Caller;
 pub use gates::{Gate, GatePoint, NoGate};

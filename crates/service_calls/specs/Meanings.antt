@@ -90,8 +90,6 @@ model_handle_call (call.Setup s) room = model_setup s
 model_handle_call (call.Step s) room = model_step s room
 model_handle_call (call.InputKey step key) room = model.InputKey step key.0
 model_handle_call (call.OutputKey attributes) room = model.OutputKey attributes
-model_handle_call (call.WrapKey key) room = model.WrapKey key.0 room
-model_handle_call (call.UnwrapKey attributes text) room = model.UnwrapKey attributes text.now
 model_handle_call call.Abort room = model.Abort
 
 abbrev pub model_creation : Creation → on_store.Call

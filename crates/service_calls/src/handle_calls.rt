@@ -49,11 +49,6 @@ pub enum HandleCall<'a> {
     Step(Step<'a>),
     InputKey { step: u16, key: KeyId },
     OutputKey(Attributes),
-    WrapKey(KeyId),
-    UnwrapKey {
-        attributes: Attributes,
-        text: &'a [u8],
-    },
     Abort,
 }
 
