@@ -1,5 +1,5 @@
 -- A key that is looked for beside an operation's own.
-use Rattle.store_core.proofs.Common.{[], AdmissionGhosts, Agrees, and_parts, ap, AreHoldings, arith, Bool, DevicesGhosts, DiskGhosts, Entry, eqb-true, false, false≢true, Gains, HasNumber, id_read, is_full, is_read, IsEmptyOrIdle, IsLawful, IsReading, KeepsSlot, List, lives, Model, named, Opening, Pairs, replay, Service, Slot, slot_at, Some, StandsFor, Store, subst, sym, Table, TakesOne, true, ℕ, ⊎_elim, ◌&&◌, ◌++◌, ◌+◌, ◌<◌, ◌==◌, ◌∙◌, ◌∷◌, ◌≡◌, ◌⊎◌}
+use Rattle.store_core.proofs.Common.{[], AdmissionGhosts, Agrees, and_parts, ap, arith, DevicesGhosts, DiskGhosts, Entry, eqb-true, false≢true, HasNumber, is_full, is_read, IsEmptyOrIdle, IsLawful, IsReading, KeepsSlot, List, lives, Model, named, Opening, Pairs, Service, Slot, slot_at, StandsFor, Store, subst, Table, TakesOne, true, ℕ, ⊎_elim, ◌++◌, ◌+◌, ◌<◌, ◌==◌, ◌∙◌, ◌∷◌, ◌≡◌}
 use Rattle.slot_states.specs.{declared.SlotState.SlotState, declared.SlotState.TheVariants.Full}
 use Rattle.slot_table.specs.Lent as lent
 use Rattle.slot_table.specs.Slots.{is_empty_state, is_idle}
