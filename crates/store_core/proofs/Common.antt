@@ -9,7 +9,7 @@ unfoldable pub use Rattle.key_cells.specs.Prelude.{zeros}
 pub use Rattle.key_cells.specs.{declared.reading.OpenFault.TheVariants.Memory, declared.state.CellState.TheVariants.Free, declared.state.CellState.TheVariants.Open, declared.state.CellState.TheVariants.Shut, declared.state.CellState.TheVariants.Unsure, declared.state.CellState.CellState}
 pub use Rattle.key_policy.proofs.Refusals.{local, missing, refused_so}
 pub use Rattle.key_policy.specs.{Uses.FitsUse, Uses.use_refusal, declared.key_use.KeyUse.KeyUse}
-pub use Rattle.key_slots.proofs.{Agreeing.empty_ones, Agreeing.holds_its_key, Agreeing.is_read, Agreeing.key_of_slot, Agreeing.quiet, Agreeing.readers_out, Counting.always_found, Counting.few_of_one, Wiping.ends_none, Wiping.ends_then, Wiping.keeps_all}
+pub use Rattle.key_slots.proofs.{Agreeing.empty_ones, Agreeing.holds_its_key, Agreeing.is_read, Agreeing.key_of_slot, Agreeing.lives, Agreeing.quiet, Agreeing.readers_out, Counting.always_found, Counting.few_of_one, Wiping.ends_none, Wiping.ends_then, Wiping.keeps_all}
 pub use Rattle.key_slots.specs.{Holdings.AreHoldings, Holdings.Gains, Holdings.IsHolding, Holdings.Pairs, Holdings.named, Standing.Agrees, Standing.IsGone, Standing.IsOut, Standing.IsThereOrNew, Standing.IsVolatileKey, Standing.Puts, Standing.SlotHasKey, Standing.slot_bytes, declared.slots.KeySlots.KeySlots}
 pub use Rattle.key_slots.specs.Wiping.{EndsOnly, IsEmptyOrIdle, IsFillingOf, IsIdleOf, IsTakenOf, KeepsSlot, TakesOne}
 pub use Rattle.persistent_keys.proofs.Leading.{stands_fits, stays}

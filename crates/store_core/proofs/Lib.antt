@@ -33,3 +33,4 @@ mod Ending
 mod Zeroed
 mod Forgotten
 mod Missing
+mod Beside

@@ -5,6 +5,7 @@ pub mod Rising
 pub mod Limits
 pub mod Start
 pub mod Uses
+pub mod Beside
 pub mod Creations
 pub mod Opaque
 pub mod Zeros

@@ -3,6 +3,7 @@ pub use Rattle.store_core.specs.Durability.{KeepsKeys, course_of, durable_keys, 
 pub use Rattle.store_core.specs.Freed.{FreedCellsAreZeros}
 pub use Rattle.store_core.specs.Limits.{HasRoom, IsFirstOver, IsRangeFull, IsUnopened}
 pub use Rattle.store_core.specs.Represents.{Adds, AddsAs, Destroys, Gives, HasModel, HasOpaque, HasOut, HoldsOf, IsEntry, IsReading, IsTold, LeavesKeys, Opening, Reads, ReadsAndGives, ReadsNone, Stands, StandsFor, Steps, Takes}
+pub use Rattle.store_core.specs.Beside.{IsReadingBeside, IsUnlent, ReadsAndGivesBeside, ReadsBeside, spare_of}
 pub use Rattle.store_core.specs.Refusals.{CallsNothing, WritesNothing}
 pub use Rattle.store_core.specs.Rising.{AreRising, NoFewerFaults, opening_after}
 pub use Rattle.store_core.specs.Start.{FindsKeysOf, IsStart, opening_of}

@@ -50,5 +50,6 @@ pub use copying::NotCopied;
 pub use creating::{NotMade, Unkept};
 pub use destroying::NotDestroyed;
 pub use laws::the_start_is_the_disks;
+pub use looks::NotLent;
 pub use opening::{StoreFault, Unopened};
 pub use store::{Opened, Store};
