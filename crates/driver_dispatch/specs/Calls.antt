@@ -1,5 +1,5 @@
 -- What the calls on a driver ask and leave. A map is none where the driver doesn't tell it.
-use Rattle.std.specs.{Prelude.◌≡◌, Prelude.◌==◌, Prelude.ℕ, Prelude.Bool, Prelude.List, Prelude.◌⊎◌, Prelude.⊤, Prelude.Option, Prelude.None, Prelude.Some, Prelude.Result, Prelude.MatchResult, Prelude.find, List.list_any, Option.option_map, Option.option_map_or}
+use Rattle.std.specs.{Prelude.◌≡◌, Prelude.◌==◌, Prelude.ℕ, Prelude.Bool, Prelude.List, Prelude.◌⊎◌, Prelude.⊤, Prelude.Option, Prelude.None, Prelude.Some, Prelude.Result, Prelude.MatchResult, Prelude.find, Prelude.is_some, List.list_any, Option.option_map, Option.option_map_or}
 use Rattle.psa_status.specs.Causes.{one_more}
 use Rattle.alg_encoding.specs.declared.table.Class.TheVariants as class
 use Rattle.alg_encoding.specs.Encoding.{class_of, IsConcrete}
@@ -19,6 +19,11 @@ HoldsHandle (Some held) handle P = IsSomeKey (held_key held handle) P
 abbrev pub Lacks : Option HeldKeys → ℕ → Type 0
 Lacks None handle = ⊤
 Lacks (Some held) handle = held_key held handle ≡ None
+
+-- whether a handle is in the map, where the map is told
+abbrev pub TellsHandle : Option HeldKeys → ℕ → Bool → Type 0
+TellsHandle None handle there = ⊤
+TellsHandle (Some held) handle there = there ≡ is_some (held_key held handle)
 
 -- A call that changes the map does so where it succeeds. Where it fails, it has done so or left the map as it was.
 abbrev pub Changes : {T E : Type 0} → (HeldKeys → HeldKeys) → (old new : Option HeldKeys) → Result T E → Type 0

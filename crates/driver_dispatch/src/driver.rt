@@ -1,10 +1,10 @@
 // What a device that holds keys promises.
-ghost use Rattle.std.specs.Prelude.{◌≡◌, ◌%◌, ℕ, ⊤, Option, OnOk, IsTrue, length};
+ghost use Rattle.std.specs.Prelude.{◌≡◌, ◌%◌, ℕ, ⊤, Option, IfOk, OnOk, IsTrue, length};
 ghost use Rattle.psa_status.specs.Causes.{HasCause};
 ghost use Rattle.key_attributes.specs.Checks.{is_key_type, permits_size};
 ghost use Rattle.crypto_specs.specs.Prelude.{aes_encrypt, ecb_encrypt};
 ghost use Rattle.store_model.specs.Prelude.{mac_of, fits_type};
-ghost use Rattle.driver_dispatch.specs.{Held.HeldKeys, Held.with_copy, Held.with_held_key, Held.without_key, Calls.Changes, Calls.CountsServed, Calls.HoldsHandle, Calls.IsMac, Calls.Lacks};
+ghost use Rattle.driver_dispatch.specs.{Held.HeldKeys, Held.with_copy, Held.with_held_key, Held.without_key, Calls.Changes, Calls.CountsServed, Calls.HoldsHandle, Calls.IsMac, Calls.Lacks, Calls.TellsHandle, Doubt.EndsDoubt, Doubt.MayDoubt, Doubt.NoNewDoubt};
 
 use alg_encoding::Alg;
 use key_attributes::KeyType;
@@ -17,6 +17,9 @@ pub trait Driver: Send + Drop {
 
     /// Where the device is. This never changes.
     ghost location_of: { Self → ℕ };
+
+    /// The handles that a crash may leave otherwise than the keys have them: present or absent.
+    ghost in_doubt: { Self → ℕ → Type 0 };
 
     /// How often it has failed. This number never falls.
     ghost faults: { Self → ℕ };
@@ -34,6 +37,7 @@ pub trait Driver: Send + Drop {
         requires known { IsTrue (is_key_type key_type.0) }
         requires size { IsTrue (permits_size key_type.0 (length bytes.now)) }
         ensures keys { Changes (with_held_key handle (record { key_type = key_type.0; bytes = bytes.now })) (keys self.old) (keys self.new) result }
+        ensures doubt { MayDoubt handle (in_doubt self.old) (in_doubt self.new) result }
         ensures served { served self.new ≡ served self.old }
         ensures location { location_of self.new ≡ location_of self.old }
         ensures cause { HasCause (faults self.old) (faults self.new) result };
@@ -42,6 +46,7 @@ pub trait Driver: Send + Drop {
     fn destroy_key(&mut self, handle: u64) -> Result<(), Failed>
         requires { HoldsHandle (keys self.old) handle (λ key. ⊤) }
         ensures keys { Changes (without_key handle) (keys self.old) (keys self.new) result }
+        ensures doubt { MayDoubt handle (in_doubt self.old) (in_doubt self.new) result }
         ensures served { served self.new ≡ served self.old }
         ensures location { location_of self.new ≡ location_of self.old }
         ensures cause { HasCause (faults self.old) (faults self.new) result };
@@ -51,6 +56,24 @@ pub trait Driver: Send + Drop {
         requires source { HoldsHandle (keys self.old) from (λ key. ⊤) }
         requires new { Lacks (keys self.old) to }
         ensures keys { Changes (with_copy from to) (keys self.old) (keys self.new) result }
+        ensures doubt { MayDoubt to (in_doubt self.old) (in_doubt self.new) result }
+        ensures served { served self.new ≡ served self.old }
+        ensures location { location_of self.new ≡ location_of self.old }
+        ensures cause { HasCause (faults self.old) (faults self.new) result };
+
+    /// Whether there is a key under a handle.
+    fn has_key(&mut self, handle: u64) -> Result<bool, Failed>
+        ensures told { IfOk result (λ there. TellsHandle (keys self.old) handle there) }
+        ensures same { keys self.new ≡ keys self.old }
+        ensures doubt { NoNewDoubt (in_doubt self.old) (in_doubt self.new) }
+        ensures served { served self.new ≡ served self.old }
+        ensures location { location_of self.new ≡ location_of self.old }
+        ensures cause { HasCause (faults self.old) (faults self.new) result };
+
+    /// Makes sure that there is no key under a handle, whether there is one or not.
+    fn discard_key(&mut self, handle: u64) -> Result<(), Failed>
+        ensures keys { Changes (without_key handle) (keys self.old) (keys self.new) result }
+        ensures doubt { EndsDoubt handle (in_doubt self.old) (in_doubt self.new) result }
         ensures served { served self.new ≡ served self.old }
         ensures location { location_of self.new ≡ location_of self.old }
         ensures cause { HasCause (faults self.old) (faults self.new) result };
@@ -61,6 +84,7 @@ pub trait Driver: Send + Drop {
         requires whole { length blocks.old % 16 ≡ 0 }
         ensures blocks { OnOk result (HoldsHandle (keys self.old) handle (λ key. blocks.new ≡ ecb_encrypt (aes_encrypt key.bytes) blocks.old)) }
         ensures same { keys self.new ≡ keys self.old }
+        ensures doubt { NoNewDoubt (in_doubt self.old) (in_doubt self.new) }
         ensures served { CountsServed (served self.old) (served self.new) result }
         ensures location { location_of self.new ≡ location_of self.old }
         ensures cause { HasCause (faults self.old) (faults self.new) result };
@@ -77,6 +101,7 @@ pub trait Driver: Send + Drop {
         requires fits { HoldsHandle (keys self.old) handle (λ key. IsTrue (fits_type alg.0 key.key_type)) }
         ensures tag { OnOk result (HoldsHandle (keys self.old) handle (λ key. tag.new ≡ mac_of alg.0 key.bytes input.now)) }
         ensures same { keys self.new ≡ keys self.old }
+        ensures doubt { NoNewDoubt (in_doubt self.old) (in_doubt self.new) }
         ensures served { CountsServed (served self.old) (served self.new) result }
         ensures location { location_of self.new ≡ location_of self.old }
         ensures cause { HasCause (faults self.old) (faults self.new) result };

@@ -28,6 +28,14 @@ module _ {X : Type 0} where
   remove-insert m k v none =
       alike _ _ (λ q. taken (insert m k v) k q ∙ ap (cond (q == k) None) (put m k v q) ∙ at_key (q == k) (get m q) v (none_at m k q none))
 
+  none_taken : (b : Bool) (o : Option X) → (b ≡ true → o ≡ None) → cond b None o ≡ o
+  none_taken true o h = sym (h refl)
+  none_taken false o h = refl
+
+  -- a key is taken that isn't there
+  pub remove-absent : (m : FinMap nat_cmp X) (k : ℕ) → get m k ≡ None → remove m k ≡ m
+  remove-absent m k none = alike _ _ (λ q. taken m k q ∙ none_taken (q == k) (get m q) (none_at m k q none))
+
   crossed : (b c : Bool) (o v w : Option X) → (b ≡ true → c ≡ true → ⊥) → cond b v (cond c w o) ≡ cond c w (cond b v o)
   crossed true true o v w h = absurd (h refl refl)
   crossed true false o v w h = refl

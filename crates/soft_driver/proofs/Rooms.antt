@@ -5,8 +5,9 @@ use Rattle.soft_driver.specs.Sizes.{is_room_full}
 use Rattle.std.specs.{Prelude.⊤, Prelude.◌≢◌, List.insert, List.remove, List.Sorted.IsNonDecreasingBy, Ordering.nat_cmp}
 use Rattle.std.proofs.{lemmas.List.append_assoc, lemmas.List.drop-set, lemmas.List.get_or_default, lemmas.List.length-append, lemmas.List.length-drop, lemmas.List.length-take, lemmas.List.set_at, lemmas.List.take-set-le, lemmas.List.take-take, lemmas.List.take_all, lemmas.List.take_at, lemmas.List.Elements.All-cons, lemmas.List.Elements.All-head, lemmas.List.Elements.All-tail}
 use Rattle.std.proofs.{lemmas.List.Edits.length-insert, lemmas.List.Edits.length-remove, lemmas.List.Edits.get_or-insert_at, lemmas.List.Edits.get_or-remove_below, lemmas.List.Edits.get_or-remove_above, lemmas.List.Sorted.All-permutation, lemmas.List.Sorted.IsPermutation-insert, lemmas.List.Sorted.IsPermutation-remove, lemmas.List.Sorted.IsNonDecreasingBy-insert}
+use Rattle.std.proofs.{Common.⊎_elim, Common.Err, Common.IfErr, Common.IfOk, Common.Ok, Common.Result, Common.is_ok, Common.is_some, lemmas.Bool.cases_lt}
 use Rattle.std.specs.FinMap as finite
-use Rattle.soft_driver.proofs.Maps.{put, remove-insert, insert-insert, insert-remove, len_more, len_fewer, len_at_most, still_new, was_new}
+use Rattle.soft_driver.proofs.Maps.{put, remove-absent, remove-insert, insert-insert, insert-remove, len_more, len_fewer, len_at_most, still_new, was_new}
 
 -- a further key, under a handle that the map doesn't have
 pub inserted : (held : List Held) (i : ℕ) (h : Held) → i ≤ length held → held_key (keys_of held) h.handle ≡ None →
@@ -61,6 +62,26 @@ absent (h ∷ held) handle lacks =
     put (keys_of held) h.handle (key_held h) handle
     ∙ ap (λ b. cond b (Some (key_held h)) (held_key (keys_of held) handle)) (ne_eqb handle h.handle (λ same. All-head (λ x. x.handle ≢ handle) h held lacks (sym same)))
     ∙ absent held handle (All-tail (λ x. x.handle ≢ handle) h held lacks)
+
+pub gap_lacks : (held : List Held) (handle i : ℕ) → IsGapFor held handle i → LacksHandle held handle
+gap_lacks held handle i gap = λ k d within same. ⊎_elim
+    (λ below. omega (arith, gap.lower k d below, same))
+    (λ above. omega (arith, gap.higher k d above within, same))
+    (cases_lt k i)
+
+-- what a search finds is whether the map has the handle
+pub found_or_none : (held : List Held) (m : HeldKeys) (handle : ℕ) (r : Result ℕ ℕ) → finite.len (keys_of held) ≡ length held → keys_of held ≡ m →
+    IfOk r (HasHandleAt held handle) → IfErr r (IsGapFor held handle) → is_ok r ≡ is_some (held_key m handle)
+found_or_none held m handle (Ok i) distinct view here gap =
+    let d : Held = record { handle = 0; key_type = record { 0 = 0 }; length = 0; buffer = [] } in
+    sym (ap (λ n. is_some (held_key n handle)) (sym view) ∙ ap (λ h. is_some (held_key (keys_of held) h)) (sym (here.named d)) ∙ ap is_some (in_map held i d distinct here.within))
+found_or_none held m handle (Err i) distinct view here gap =
+    sym (ap (λ n. is_some (held_key n handle)) (sym view) ∙ ap is_some (absent held handle (gap_lacks held handle i gap)))
+
+-- where there is a gap for a handle, the map without it is the map
+pub none_to_forget : (held : List Held) (m : HeldKeys) (handle i : ℕ) → keys_of held ≡ m → IsGapFor held handle i → m ≡ without_key handle m
+none_to_forget held m handle i view gap =
+    sym (remove-absent m handle (ap (λ n. held_key n handle) (sym view) ∙ absent held handle (gap_lacks held handle i gap)))
 
 pub lacks_not : (held slice : List Held) (m : HeldKeys) (handle : ℕ) → keys_of held ≡ m → IsSomeKey (held_key m handle) (λ key. ⊤) → slice ≡ held → LacksHandle slice handle → ⊥
 lacks_not held slice m handle view has same lacks =

@@ -42,6 +42,11 @@ after_import s handle key = if brings_no_key s then failed s else leaving s (wit
 abbrev pub after_copy : SoftForm → (from to : ℕ) → SoftForm
 after_copy s from to = if brings_no_key s then failed s else leaving s (with_copy from to s.keys)
 
+-- a question leaves the keys too
+abbrev pub after_question : SoftForm → SoftForm
+after_question s = if is_listed s then failed s else after_one_call s
+
+-- a discard too, where there may be no key under the handle
 abbrev pub after_destroy : SoftForm → ℕ → SoftForm
 after_destroy s handle = if is_listed s then failed s else leaving s (without_key handle s.keys)
 

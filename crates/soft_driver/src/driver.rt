@@ -4,8 +4,8 @@ ghost use Rattle.psa_status.specs.Causes.{HasCause, one_more};
 ghost use Rattle.key_attributes.specs.Checks.{is_key_type, permits_size};
 ghost use Rattle.crypto_specs.specs.Prelude.{aes_encrypt, ecb_encrypt};
 ghost use Rattle.store_model.specs.Prelude.{mac_of, fits_type};
-ghost use Rattle.driver_dispatch.specs.{Held.with_copy, Held.with_held_key, Held.without_key, Calls.Changes, Calls.CountsServed, Calls.HoldsHandle, Calls.IsMac, Calls.Lacks};
-ghost use Rattle.soft_driver.specs.Form.{after_computing, after_copy, after_destroy, after_import, brings_no_key, after_one_call, is_listed, new_form};
+ghost use Rattle.driver_dispatch.specs.{Held.with_copy, Held.with_held_key, Held.without_key, Calls.Changes, Calls.CountsServed, Calls.HoldsHandle, Calls.IsMac, Calls.Lacks, Calls.TellsHandle, Doubt.EndsDoubt, Doubt.MayDoubt, Doubt.NoNewDoubt};
+ghost use Rattle.soft_driver.specs.Form.{after_computing, after_copy, after_destroy, after_import, brings_no_key, after_one_call, after_question, is_listed, new_form};
 
 use crate::computing::{encipher_blocks, fill_mac};
 use crate::room::KeyRoom;
@@ -66,7 +66,7 @@ impl SoftDriver {
     }
 
     // A call that fails.
-    fn fail(&mut self) -> Result<(), Failed>
+    fn fail<T>(&mut self) -> Result<T, Failed>
         ensures fault { self.new ≡ record self.old { faults = one_more self.old.faults } }
         ensures failed { IsErr result }
         ensures cause { HasCause self.old.faults self.new.faults result }
@@ -74,12 +74,30 @@ impl SoftDriver {
         self.faults = self.faults.saturating_add(1);
         Err(Failed)
     }
+
+    // Forgets the key under a handle, if there is one.
+    fn forget(&mut self, handle: u64) -> Result<(), Failed>
+        ensures after { self.new ≡ after_destroy self.old handle }
+        ensures fails { IsErr result ↔ (is_listed self.old ≡ true) }
+        ensures keys { Changes (without_key handle) (Some self.old.keys) (Some self.new.keys) result }
+        ensures served { self.new.served ≡ self.old.served }
+        ensures location { self.new.location ≡ self.old.location }
+        ensures cause { HasCause self.old.faults self.new.faults result }
+    {
+        if self.is_listed() {
+            return self.fail();
+        }
+        self.room.remove(handle);
+        Ok(())
+    }
 }
 
 impl Driver for SoftDriver {
     ghost keys = { λ d. Some d.keys };
 
     ghost location_of = { λ d. d.location };
+
+    ghost in_doubt = { λ d handle. ⊥ };
 
     ghost faults = { λ d. d.faults };
 
@@ -96,6 +114,7 @@ impl Driver for SoftDriver {
         ensures after { self.new ≡ after_import self.old handle (record { key_type = key_type.0; bytes = bytes.now }) }
         ensures fails { IsErr result ↔ (brings_no_key self.old ≡ true) }
         ensures keys { Changes (with_held_key handle (record { key_type = key_type.0; bytes = bytes.now })) (Some self.old.keys) (Some self.new.keys) result }
+        ensures doubt { MayDoubt handle (λ other. ⊥) (λ other. ⊥) result }
         ensures served { self.new.served ≡ self.old.served }
         ensures location { self.new.location ≡ self.old.location }
         ensures cause { HasCause self.old.faults self.new.faults result }
@@ -112,15 +131,12 @@ impl Driver for SoftDriver {
         ensures after { self.new ≡ after_destroy self.old handle }
         ensures fails { IsErr result ↔ (is_listed self.old ≡ true) }
         ensures keys { Changes (without_key handle) (Some self.old.keys) (Some self.new.keys) result }
+        ensures doubt { MayDoubt handle (λ other. ⊥) (λ other. ⊥) result }
         ensures served { self.new.served ≡ self.old.served }
         ensures location { self.new.location ≡ self.old.location }
         ensures cause { HasCause self.old.faults self.new.faults result }
     {
-        if self.is_listed() {
-            return self.fail();
-        }
-        self.room.remove(handle);
-        Ok(())
+        self.forget(handle)
     }
 
     fn copy_key(&mut self, from: u64, to: u64) -> Result<(), Failed>
@@ -129,6 +145,7 @@ impl Driver for SoftDriver {
         ensures after { self.new ≡ after_copy self.old from to }
         ensures fails { IsErr result ↔ (brings_no_key self.old ≡ true) }
         ensures keys { Changes (with_copy from to) (Some self.old.keys) (Some self.new.keys) result }
+        ensures doubt { MayDoubt to (λ other. ⊥) (λ other. ⊥) result }
         ensures served { self.new.served ≡ self.old.served }
         ensures location { self.new.location ≡ self.old.location }
         ensures cause { HasCause self.old.faults self.new.faults result }
@@ -140,6 +157,34 @@ impl Driver for SoftDriver {
         Ok(())
     }
 
+    fn has_key(&mut self, handle: u64) -> Result<bool, Failed>
+        ensures after { self.new ≡ after_question self.old }
+        ensures fails { IsErr result ↔ (is_listed self.old ≡ true) }
+        ensures told { IfOk result (λ there. TellsHandle (Some self.old.keys) handle there) }
+        ensures same { Some self.new.keys ≡ Some self.old.keys }
+        ensures doubt { NoNewDoubt (λ other. ⊥) (λ other. ⊥) }
+        ensures served { self.new.served ≡ self.old.served }
+        ensures location { self.new.location ≡ self.old.location }
+        ensures cause { HasCause self.old.faults self.new.faults result }
+    {
+        if self.is_listed() {
+            return self.fail();
+        }
+        Ok(self.room.has(handle))
+    }
+
+    fn discard_key(&mut self, handle: u64) -> Result<(), Failed>
+        ensures after { self.new ≡ after_destroy self.old handle }
+        ensures fails { IsErr result ↔ (is_listed self.old ≡ true) }
+        ensures keys { Changes (without_key handle) (Some self.old.keys) (Some self.new.keys) result }
+        ensures doubt { EndsDoubt handle (λ other. ⊥) (λ other. ⊥) result }
+        ensures served { self.new.served ≡ self.old.served }
+        ensures location { self.new.location ≡ self.old.location }
+        ensures cause { HasCause self.old.faults self.new.faults result }
+    {
+        self.forget(handle)
+    }
+
     fn encrypt_blocks(&mut self, handle: u64, blocks: &mut [u8]) -> Result<(), Failed>
         requires aes { HoldsHandle (Some self.old.keys) handle (λ key. key.key_type ≡ 0x2400) }
         requires whole { length blocks.old % 16 ≡ 0 }
@@ -148,6 +193,7 @@ impl Driver for SoftDriver {
         ensures kept { OnErr result (blocks.new ≡ blocks.old) }
         ensures blocks { OnOk result (HoldsHandle (Some self.old.keys) handle (λ key. blocks.new ≡ ecb_encrypt (aes_encrypt key.bytes) blocks.old)) }
         ensures same { Some self.new.keys ≡ Some self.old.keys }
+        ensures doubt { NoNewDoubt (λ other. ⊥) (λ other. ⊥) }
         ensures served { CountsServed self.old.served self.new.served result }
         ensures location { self.new.location ≡ self.old.location }
         ensures cause { HasCause self.old.faults self.new.faults result }
@@ -174,6 +220,7 @@ impl Driver for SoftDriver {
         ensures kept { OnErr result (tag.new ≡ tag.old) }
         ensures tag { OnOk result (HoldsHandle (Some self.old.keys) handle (λ key. tag.new ≡ mac_of alg.0 key.bytes input.now)) }
         ensures same { Some self.new.keys ≡ Some self.old.keys }
+        ensures doubt { NoNewDoubt (λ other. ⊥) (λ other. ⊥) }
         ensures served { CountsServed self.old.served self.new.served result }
         ensures location { self.new.location ≡ self.old.location }
         ensures cause { HasCause self.old.faults self.new.faults result }

@@ -13,8 +13,8 @@ pub struct Held {
     pub buffer: [u8; 1024],
 }
 
-// The index of the key with a handle, or where it would go.
-fn search(held: &[Held], handle: u64) -> Result<usize, usize>
+/// The index of the key with a handle, or where it would go.
+pub fn search(held: &[Held], handle: u64) -> Result<usize, usize>
     requires { IsNonDecreasingBy (λ key. key.handle) held.now }
     ensures found { IfOk result (λ index. HasHandleAt held.now handle index) }
     ensures gap { IfErr result (λ index. IsGapFor held.now handle index) }

@@ -1,10 +1,10 @@
 // The keys that are held, in buffers that are reserved at the start.
-ghost use Rattle.std.specs.Prelude.{◌≡◌, ⊤, All, false, None, IfOk, IsTrue, length};
+ghost use Rattle.std.specs.Prelude.{◌≡◌, ⊤, All, false, None, IfOk, IsTrue, is_some, length};
 ghost use Rattle.key_attributes.specs.Checks.{permits_size};
 ghost use Rattle.driver_dispatch.specs.{Held.HeldKey, Held.held_key, Held.no_keys, Held.with_copy, Held.with_held_key, Held.without_key, Calls.IsSomeKey};
 ghost use Rattle.soft_driver.specs.{Room.HasClearBuffer, Sizes.IsSized, Sizes.is_room_full};
 
-use crate::held::{Held, clear, gap_for, held_index, let_key_go, write_front};
+use crate::held::{Held, clear, gap_for, held_index, let_key_go, search, write_front};
 use key_attributes::KeyType;
 use psa_status::Memory;
 use std::alloc::Global;
@@ -101,13 +101,20 @@ impl KeyRoom {
         bytes.fill(0);
     }
 
-    /// Forgets a key.
+    /// Whether there is a key under a handle.
+    pub fn has(&self, handle: u64) -> bool
+        ensures { result ≡ is_some (held_key self.now handle) }
+    {
+        search(&self.held, handle).is_ok()
+    }
+
+    /// Forgets the key under a handle, if there is one.
     pub fn remove(&mut self, handle: u64)
-        requires { IsSomeKey (held_key self.old handle) (λ key. ⊤) }
         ensures { self.new ≡ without_key handle self.old }
     {
-        let index = held_index(&self.held, handle);
-        let_key_go(&mut self.held, index);
+        if let Ok(index) = search(&self.held, handle) {
+            let_key_go(&mut self.held, index);
+        }
     }
 }
 

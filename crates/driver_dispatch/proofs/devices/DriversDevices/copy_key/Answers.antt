@@ -13,6 +13,7 @@ pub returns : goal.returns
 returns g c =
     let first = first_at _ _ _ c.index_mut.result.now c.copy_key.new.self _ c.element-place.ensures.first c.element-place.ensures.inside c.index_mut.ensures.value c.copy_key.ensures.location in record {
       keys = rw (first.before, first.after) c.copy_key.ensures.keys;
+      doubt = rw (first.before, first.after) c.copy_key.ensures.doubt;
       served = rw (first.before, first.after) c.copy_key.ensures.served;
       locations = first.locations;
       cause = rw (first.before, first.after) c.copy_key.ensures.cause;

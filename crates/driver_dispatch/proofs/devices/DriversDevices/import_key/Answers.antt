@@ -9,6 +9,7 @@ pub returns : goal.returns
 returns g c =
     let first = first_at _ _ _ c.index_mut.result.now c.import_key.new.self _ c.element-place.ensures.first c.element-place.ensures.inside c.index_mut.ensures.value c.import_key.ensures.location in record {
       keys = rw (first.before, first.after) c.import_key.ensures.keys;
+      doubt = rw (first.before, first.after) c.import_key.ensures.doubt;
       served = rw (first.before, first.after) c.import_key.ensures.served;
       locations = first.locations;
       cause = rw (first.before, first.after) c.import_key.ensures.cause;

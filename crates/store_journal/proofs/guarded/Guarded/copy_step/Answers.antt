@@ -1,0 +1,41 @@
+use Rattle.store_journal.proofs.Changing.{copy_made, copy_touches, discard_touches, lacks_taken, source_still, sure_after, touches_then}
+use Rattle.store_journal.proofs.Touching.{touch_after, touch_within}
+use Rattle.store_journal.proofs.guarded.Guarded.copy_step.Goals as goal
+
+pub returns-in_err-discard_key-clause-touches : goal.returns-in_err-discard_key-clause-touches
+returns-in_err-discard_key-clause-touches g c = discard_touches _ _ _ _ _ c.discard_key.result c.discard_key.ensures.keys c.discard_key.ensures.doubt
+
+pub returns-in_err-discard_key-clause-within : goal.returns-in_err-discard_key-clause-within
+returns-in_err-discard_key-clause-within g c = λ sound. touch_within _ c.args.cell _ _ _ c.requires.kept c.requires.raised c.requires.alone sound
+
+pub returns-in_err-discard_key-clause-after : goal.returns-in_err-discard_key-clause-after
+returns-in_err-discard_key-clause-after g c = λ sound.
+    touch_after _ _ _ _ _ _ _ (returns-in_err-discard_key-clause-touches g c)
+    (touch_within _ c.args.cell _ _ _ c.requires.kept c.requires.raised c.requires.alone sound)
+
+pub copy_key-requires-clause-source : goal.copy_key-requires-clause-source
+copy_key-requires-clause-source g c =
+    let touched = discard_touches _ _ _ _ _ c.discard_key.result c.discard_key.ensures.keys c.discard_key.ensures.doubt in
+    source_still _ _ _ _ c.requires.other touched.others c.requires.source
+
+pub copy_key-requires-clause-new : goal.copy_key-requires-clause-new
+copy_key-requires-clause-new g c = lacks_taken _ _ _ c.in_ok-discard_key.ensures.keys
+
+pub returns-clause-touches : goal.returns-clause-touches
+returns-clause-touches g c =
+    touches_then _ _ _ _ _ _ _ (discard_touches _ _ _ _ _ c.discard_key.result c.discard_key.ensures.keys c.discard_key.ensures.doubt)
+    (copy_touches _ _ _ _ _ _ c.copy_key.result c.copy_key.ensures.keys c.copy_key.ensures.doubt)
+
+pub returns-clause-made : goal.returns-clause-made
+returns-clause-made g c =
+    let touched = discard_touches _ _ _ _ _ c.discard_key.result c.discard_key.ensures.keys c.discard_key.ensures.doubt in
+    copy_made _ _ _ _ _ _ _ c.copy_key.result c.requires.other touched.others c.requires.source c.copy_key.ensures.keys c.copy_key.ensures.doubt
+    (sure_after _ _ _ c.in_ok-discard_key.ensures.doubt)
+
+pub returns-clause-after : goal.returns-clause-after
+returns-clause-after g c = λ sound.
+    touch_after _ _ _ _ _ _ _ (returns-clause-touches g c)
+    (touch_within _ c.args.cell _ _ _ c.requires.kept c.requires.raised c.requires.alone sound)
+
+pub returns-clause-within : goal.returns-clause-within
+returns-clause-within g c = λ sound. touch_within _ c.args.cell _ _ _ c.requires.kept c.requires.raised c.requires.alone sound

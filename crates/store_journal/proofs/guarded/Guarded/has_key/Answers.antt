@@ -1,0 +1,5 @@
+use Rattle.store_journal.proofs.Touching.{same_after}
+use Rattle.store_journal.proofs.guarded.Guarded.has_key.Goals as goal
+
+pub returns-clause-in_step : goal.returns-clause-in_step
+returns-clause-in_step g c = same_after _ _ _ _ c.has_key.ensures.same c.has_key.ensures.doubt

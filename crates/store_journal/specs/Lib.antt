@@ -1,0 +1,5 @@
+pub mod Sights
+pub mod Placed
+pub mod Steps
+pub mod InStep
+pub mod Faults
