@@ -167,7 +167,6 @@ module _ (alg : ℕ) where
         scheme = same_bool (is_hkdf d.scheme) (base_of alg / 2 ^ 8 == 0x080001) row.0 ∙ ap derivations.is_hkdf (own_base l e parts.0);
         hash = names_hash alg d.hash row.1;
       }
-
   names family.Wrap l e h = tt
 
   there : (b : Base) → entry_of alg ≡ Some b → (found : Option Algorithm) → is_named found (tag_length_of alg) (base_of alg) b ≡ true → Parsed alg found

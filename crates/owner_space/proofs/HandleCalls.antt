@@ -1,12 +1,13 @@
 -- A call on a handle by a caller of the owner: two alike services reply the same, and stay alike.
-use Rattle.std.proofs.Common.{Err, List, None, Ok, Option, Result, Some, [], ap, eq-eqb, false, inl, inr, nat_lt, not, refl, subst, sym, ℕ, ◌++◌, ◌∙◌, ◌∷◌, ◌≡◌}
+use Rattle.std.proofs.Common.{Err, List, None, Ok, Option, Result, Some, [], ap, eq-eqb, false, inl, inr, length, nat_lt, not, refl, subst, sym, ℕ, ◌++◌, ◌∙◌, ◌∷◌, ◌≡◌}
 use Rattle.owner_space.proofs.Common.{Active, Attributes, Class, DerivationWork, HandleOperation, InError, Inactive, InsufficientData, InvalidHandle, Key, KeyCreation, KeyMap, Operation, OutputKey, Owners, Served, Service, Status, Work, bytes_of_key, cipher_usage, counted, derivation_part, derived_key, derived_key_of, first_row, handle_call_inside, inside, inside_created, is_alive, key_of_operation, mac_usage, next_derived, next_random, operation_of, output_key, output_key_rows, own_of, part_of, renamed_attributes, stated_bytes, unless, unless-ok, use_rows, with_drawn, with_operation}
 use Rattle.std.specs.FinMap as map
 use Rattle.alg_encoding.specs.declared.table.Class.TheVariants as class
 use Rattle.psa_status.specs.declared.Status.TheVariants.{BadState}
-use Rattle.store_model.specs.HandleCalls.{Abort, AeadSetup, CipherSetup, DerivationSetup, HandleCall, HashSetup, InputKey, MacSetup, OnAead, OnCipher, OnDerivation, OnHash, OnMac, creation_of, handle_step, input_key, input_key_rows, set_up_keyed, set_up_with}
-use Rattle.store_model.specs.Handles.{Authenticating, Ciphering, Deriving, Hashing, Held, Sealing, aead_part, applied, cipher_part, hash_part, held_after, held_with, mac_part, stepped, untouched}
-use Rattle.store_model.specs.Operations.{After, ends, goes_on, set_up, unless_failed, with_live_key}
+use Rattle.store_model.specs.HandleCalls.{Abort, AeadSetup, CipherSetup, DerivationSetup, HandleCall, HashSetup, InputKey, MacSetup, OnAead, OnCipher, OnDerivation, OnHash, OnMac, UnwrapKey, WrapKey, WrapSetup, creation_of, handle_step, input_key, input_key_rows, made_by_operation, set_up_keyed, set_up_with, unwrap_key, unwrapped_key, unwrapped_key_of}
+use Rattle.store_model.specs.WrapOperations.{WrapWork, unwrap_key_rows, unwrapped, wrap_key_step, wrap_work}
+use Rattle.store_model.specs.Handles.{Authenticating, Ciphering, Deriving, Hashing, Held, Sealing, Wrapping, aead_part, applied, cipher_part, hash_part, held_after, held_with, mac_part, stepped, untouched, wrap_part}
+use Rattle.store_model.specs.Operations.{After, ends, fails, goes_on, set_up, unless_failed, with_live_key}
 use Rattle.store_model.specs.{AeadOperations.aead_step, AeadOperations.aead_work, CipherOperations.cipher_step, CipherOperations.cipher_work, DerivationOperations.derivation_step, DerivationOperations.with_key, DerivationOperations.without, HashOperations.hash_step, MacOperations.mac_step, MacOperations.mac_work, Outcome.done}
 use Rattle.owner_space.proofs.{Alike.AreTwins, Alike.GoOn, Alike.IsOwnersCaller, Alike.SameKey, Alike.SameOperation, Alike.SameUse, Alike.active, Alike.along, Alike.blind, Alike.both, Alike.has_number, Alike.in_error, Alike.inactive, Alike.keyed, Alike.keyless, Alike.neither, Alike.operation_is_set, Alike.own_goes, Alike.own_is_set, Alike.stores_go, Alike.words_drawn, Owned.CanName, Owned.created_named, Owned.inside_named, Owned.no_key, Recorded.recorded_same, Recorded.then_same, StoreCalls.AreServedAlike, StoreCalls.both_create, StoreCalls.both_identify, StoreCalls.key_at, StoreCalls.random_same, Stores.counted_go}
 
@@ -128,6 +129,20 @@ module _ (owners : Owners) (caller : ℕ) (is : IsOwnersCaller owners caller) (w
       Same (stepped whole caller handle embed (part_of part now) f) (stepped alone caller handle embed (part_of part now_alone) g)
   stepped_same embed part f g e = on_part part (λ o. stepped whole caller handle embed o f) (λ o. stepped alone caller handle embed o g) (step_by embed f g e)
 
+  -- a key that an operation makes
+  by_operation : (work : Work) (kept : Attributes) (bytes : List ℕ) →
+      Same (made_by_operation whole caller handle (key_of_operation now) work kept bytes) (made_by_operation alone caller handle (key_of_operation now_alone) work kept bytes)
+  by_operation work kept bytes =
+      let go = both_create owners caller is whole alone twins kept bytes in
+      let p : HandleOperation = Active (record { key = key_of_operation now; work = work }) in
+      let q : HandleOperation = Active (record { key = key_of_operation now_alone; work = work }) in
+      let key = key_same ((own_goes owners owner twins go caller refl).operations handle) in
+      record {
+        alike = own_is_set owners owner twins go caller (with_operation (own_of whole caller) handle p) (with_operation (own_of alone caller) handle q)
+            (operation_is_set owners owner twins go caller refl handle p q (active work (key_of_operation now) (key_of_operation now_alone) key));
+        reply = both_identify owners caller is whole alone twins kept bytes;
+      }
+
   -- DERIVATIONS
 
   input_same : (step id : ℕ) → CanName owners owner id → (o : Operation DerivationWork) → Same (input_key whole caller handle o step id) (input_key alone caller handle o step id)
@@ -149,20 +164,35 @@ module _ (owners : Owners) (caller : ℕ) (is : IsOwnersCaller owners caller) (w
     where
       of : (r : Result Attributes Status) → Same (derived_key whole caller handle (key_of_operation now) w n r) (derived_key alone caller handle (key_of_operation now_alone) w n r)
       of (Err status) = applied_same (after_same Deriving (key_same same_now) refl)
-      of (Ok kept) =
-          let go = both_create owners caller is whole alone twins kept (next_derived w n) in
-          let p : HandleOperation = Active (record { key = key_of_operation now; work = Deriving (without w n) }) in
-          let q : HandleOperation = Active (record { key = key_of_operation now_alone; work = Deriving (without w n) }) in
-          let key = key_same ((own_goes owners owner twins go caller refl).operations handle) in
-          record {
-            alike = own_is_set owners owner twins go caller (with_operation (own_of whole caller) handle p) (with_operation (own_of alone caller) handle q)
-                (operation_is_set owners owner twins go caller refl handle p q (active (Deriving (without w n)) (key_of_operation now) (key_of_operation now_alone) key));
-            reply = both_identify owners caller is whole alone twins kept (next_derived w n);
-          }
+      of (Ok kept) = by_operation (Deriving (without w n)) kept (next_derived w n)
 
   output_same : (a : Attributes) → CanName owners owner a.id.0 → (o : Operation DerivationWork) → Same (output_key whole caller handle o a) (output_key alone caller handle o a)
   output_same a named (Active w) = made_same w (stated_bytes a) (derived_same w a named)
   output_same a named other = untouched_same BadState
+
+  -- KEY WRAPPING
+
+  wrap_same : (id room : ℕ) → CanName owners owner id → (w : WrapWork) → wrap_key_step w (map.get whole.store.keys id) room ≡ wrap_key_step w (map.get alone.store.keys id) room
+  wrap_same id room named w = blind (λ found. wrap_key_step w found room) (λ key n. refl) (found_at id named)
+
+  unwrapped_same : (w : WrapWork) (a : Attributes) (text : List ℕ) → CanName owners owner a.id.0 →
+      unwrapped_key_of whole.store caller (key_of_operation now) w a text ≡ unwrapped_key_of alone.store caller (key_of_operation now_alone) w a text
+  unwrapped_same w a text named =
+      let alive = alive_now in
+      then_same (λ i. unless (first_row ((not (alive i), InvalidHandle) ∷ unwrap_key_rows w a text)) a) (λ stated e.
+      recorded_same owners caller is whole alone twins stated (length (unwrapped w text)) (subst (λ (x : Attributes). CanName owners owner x.id.0) (unless-ok _ a stated e).1 named))
+
+  unwrap_made : (w : WrapWork) (bytes : List ℕ) {r s : Result Attributes Status} → r ≡ s →
+      Same (unwrapped_key whole caller handle (key_of_operation now) w bytes r) (unwrapped_key alone caller handle (key_of_operation now_alone) w bytes s)
+  unwrap_made w bytes = along (λ r s. Same (unwrapped_key whole caller handle (key_of_operation now) w bytes r) (unwrapped_key alone caller handle (key_of_operation now_alone) w bytes s)) of
+    where
+      of : (r : Result Attributes Status) → Same (unwrapped_key whole caller handle (key_of_operation now) w bytes r) (unwrapped_key alone caller handle (key_of_operation now_alone) w bytes r)
+      of (Err status) = applied_same {x = fails status} {y = fails status} (record { operation = in_error; reply = refl; drawn = refl })
+      of (Ok kept) = by_operation (Wrapping w) kept bytes
+
+  unwrap_same : (a : Attributes) (text : List ℕ) → CanName owners owner a.id.0 → (o : Operation WrapWork) → Same (unwrap_key whole caller handle o a text) (unwrap_key alone caller handle o a text)
+  unwrap_same a text named (Active w) = unwrap_made w (unwrapped w text) (unwrapped_same w a text named)
+  unwrap_same a text named other = untouched_same BadState
 
   -- ANY CALL
 
@@ -189,4 +219,9 @@ module _ (owners : Owners) (caller : ℕ) (is : IsOwnersCaller owners caller) (w
   handle_call_alike (OutputKey a) =
       let stated : Attributes = renamed_attributes (inside_created owner) a in
       on_part derivation_part (λ o. output_key whole caller handle o stated) (λ o. output_key alone caller handle o stated) (output_same stated (created_named owners owner is.few a.id.0))
+  handle_call_alike (WrapSetup wraps id alg) = keyed_same class.Wrap (cipher_usage wraps) alg (inside owners owner id) (λ key. Wrapping (wrap_work wraps key)) (named_id id)
+  handle_call_alike (WrapKey id room) = stepped_same Wrapping wrap_part (λ w. wrap_key_step w (map.get whole.store.keys (inside owners owner id)) room) (λ w. wrap_key_step w (map.get alone.store.keys (inside owners owner id)) room) (wrap_same (inside owners owner id) room (named_id id))
+  handle_call_alike (UnwrapKey a text) =
+      let stated : Attributes = renamed_attributes (inside_created owner) a in
+      on_part wrap_part (λ o. unwrap_key whole caller handle o stated text) (λ o. unwrap_key alone caller handle o stated text) (unwrap_same stated text (created_named owners owner is.few a.id.0))
   handle_call_alike Abort = applied_same {x = ends done} {y = ends done} (record { operation = inactive; reply = refl; drawn = refl })

@@ -1,6 +1,7 @@
 -- A request of another owner's caller leaves all that the owner's callers can name, and what is theirs.
 use Rattle.std.proofs.Common.{Bool, Err, List, None, Ok, Option, Result, Some, [], ap, cond, eqb-true, false, inl, inr, length, nat_lt, not, ok_or, refl, subst, sym, true, ℕ, ◌++◌, ◌==◌, ◌∙◌, ◌∷◌, ◌≡◌}
 use Rattle.owner_space.proofs.Common.{Active, Attributes, Copy, DerivationWork, Destroy, Generate, Import, InsufficientData, InvalidArgument, InvalidHandle, IsSound, Key, KeyCreation, OnHandle, OnStore, Operation, OutputKey, Owners, Plain, Random, Request, Rows, Service, Status, Store, bytes_of_key, call_inside, copy_attributes, created, created_unless, decided, derivation_part, derived_key, derived_key_of, destroyed, first_row, generated, handle_call_inside, inside, inside_created, is_alive, key_of_operation, leaves_settings, meet_of, new_id, new_key, next_derived, next_random, operation_of, output_key, output_key_rows, own_of, part_of, put, recorded_copy, recorded_of, renamed_attributes, request_inside, serve, source_rows, stated_bits_rows, stated_bytes, taken, unless, unless-ok, ◌>>=◌}
+use Rattle.store_model.specs.{HandleCalls.UnwrapKey, HandleCalls.unwrap_key, HandleCalls.unwrapped_key, HandleCalls.unwrapped_key_of, Handles.wrap_part, WrapOperations.WrapWork, WrapOperations.unwrap_key_rows, WrapOperations.unwrapped}
 use Rattle.std.specs.FinMap as map
 use Rattle.store_model.proofs.Others.{leaves_callers, leaves_shared}
 use Rattle.store_model.specs.Laws.{may_change_keys}
@@ -69,6 +70,18 @@ module _ (owners : Owners) (caller : ℕ) (is : IsOwnersCaller owners caller) (o
       recorded_others stated (stated_bytes a) (subst (λ (x : Attributes). MayName x.id.0) (unless-ok (first_row rows) a stated e).1 named)))
   output_leaves handle a named o = λ q own. refl
 
+  unwrapped_leaves : (handle : ℕ) (key : Option KeyCreation) (w : WrapWork) (bytes : List ℕ) (r : Result Attributes Status) → OfRecorded IsOthers r → Leaves (unwrapped_key service caller handle key w bytes r).service.store
+  unwrapped_leaves handle key w bytes (Ok kept) others = created_leaves kept bytes (others kept refl)
+  unwrapped_leaves handle key w bytes (Err status) others = λ q own. refl
+
+  unwrap_leaves : (handle : ℕ) (a : Attributes) (text : List ℕ) → MayName a.id.0 → (o : Operation WrapWork) → Leaves (unwrap_key service caller handle o a text).service.store
+  unwrap_leaves handle a text named (Active w) =
+      let key : Option KeyCreation = key_of_operation (operation_of service caller handle) in
+      let rows : Rows = (not (is_alive store key), InvalidHandle) ∷ unwrap_key_rows w a text in
+      unwrapped_leaves handle key w (unwrapped w text) (unwrapped_key_of store caller key w a text) (then_recorded IsOthers (unless (first_row rows) a) _ (λ stated e.
+      recorded_others stated (length (unwrapped w text)) (subst (λ (x : Attributes). MayName x.id.0) (unless-ok (first_row rows) a stated e).1 named)))
+  unwrap_leaves handle a text named o = λ q own. refl
+
   -- DESTRUCTIONS: of a key that is another owner's, or of no key
 
   destroyed_leaves : (id : ℕ) → MayName id → Leaves (destroyed store id).store
@@ -100,6 +113,8 @@ module _ (owners : Owners) (caller : ℕ) (is : IsOwnersCaller owners caller) (o
   request_leaves (OnStore call) = quiet (OnStore (call_inside owners caller call)) refl
   request_leaves (OnHandle handle (OutputKey a)) =
       output_leaves handle (renamed_attributes (inside_created (owners caller)) a) (created_id a.id.0) (part_of derivation_part (operation_of service caller handle))
+  request_leaves (OnHandle handle (UnwrapKey a text)) =
+      unwrap_leaves handle (renamed_attributes (inside_created (owners caller)) a) text (created_id a.id.0) (part_of wrap_part (operation_of service caller handle))
   request_leaves (OnHandle handle call) = quiet (OnHandle handle (handle_call_inside owners caller call)) refl
 
   pub others_leave : (alone : Service) → AreTwins owners owner service alone → (request : Request) → AreAlike owners owner (serve service caller (request_inside owners caller request) Plain).service alone

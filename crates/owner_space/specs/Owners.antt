@@ -4,7 +4,7 @@ use Rattle.key_attributes.specs.declared.Attributes.{Attributes}
 use Rattle.store_model.specs.Call.{Call, Import, Export, GetAttributes, Destroy, Purge, Copy, Generate, MacCompute, MacVerify, CipherEncrypt, CipherDecrypt, AeadEncrypt, AeadDecrypt, Output, Identifier, Description, Reply}
 use Rattle.std.specs.FinMap as map
 use Rattle.store_model.specs.{Creation.identified, Sound.IsSoundStore, Store.Store, Store.caller_count}
-use Rattle.store_model.specs.HandleCalls.{HandleCall, MacSetup, CipherSetup, AeadSetup, InputKey, OutputKey}
+use Rattle.store_model.specs.HandleCalls.{HandleCall, MacSetup, CipherSetup, AeadSetup, InputKey, OutputKey, UnwrapKey, WrapKey, WrapSetup}
 use Rattle.store_model.specs.Requests.{Request, OnStore, OnHandle}
 
 -- the owner of each caller, by the caller's number
@@ -73,6 +73,9 @@ renamed_handle_call named stated (CipherSetup encrypts id alg) = CipherSetup enc
 renamed_handle_call named stated (AeadSetup encrypts id alg) = AeadSetup encrypts (named id) alg
 renamed_handle_call named stated (InputKey step id) = InputKey step (named id)
 renamed_handle_call named stated (OutputKey a) = OutputKey (renamed_attributes stated a)
+renamed_handle_call named stated (WrapSetup wraps id alg) = WrapSetup wraps (named id) alg
+renamed_handle_call named stated (WrapKey id room) = WrapKey (named id) room
+renamed_handle_call named stated (UnwrapKey a text) = UnwrapKey (renamed_attributes stated a) text
 renamed_handle_call named stated keyless_call = keyless_call
 
 -- a caller's call, with the identifiers that the store has for what the caller's owner names

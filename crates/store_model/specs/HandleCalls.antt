@@ -7,7 +7,7 @@ use Rattle.store_model.specs.{Rules.class_rows, Rules.use_rows, Rules.mac_usage,
 use Rattle.store_model.specs.{HashOperations.HashStep, HashOperations.hash_work, HashOperations.hash_step, CipherOperations.CipherStep, CipherOperations.cipher_work, CipherOperations.cipher_step, AeadOperations.AeadStep, AeadOperations.aead_work, AeadOperations.aead_step}
 use Rattle.store_model.specs.DerivationOperations.{DerivationStep, DerivationWork, derivation_work, derivation_step, secret_step, key_step_rows, with_key, output_key_rows, exhausted, without, next_derived, stated_bytes}
 use Rattle.store_model.specs.WrapOperations.{WrapWork, wrap_work, wrap_key_step, unwrap_key_rows, unwrapped}
-use Rattle.store_model.specs.Handles.{KeyCreation, Work, Hashing, Authenticating, Ciphering, Sealing, Deriving, Wrapping, Service, Served, own_of, operation_of, with_own, with_operation, next_random, applied, untouched, stepped, part_of, hash_part, mac_part, cipher_part, aead_part, derivation_part, wrap_part, key_of_operation, is_alive, held_after, held_with}
+use Rattle.store_model.specs.Handles.{KeyCreation, Work, Hashing, Authenticating, Ciphering, Sealing, Deriving, Wrapping, Service, Served, own_of, operation_of, with_own, with_operation, next_random, applied, untouched, stepped, part_of, hash_part, mac_part, cipher_part, aead_part, derivation_part, wrap_part, key_of_operation, is_alive, held_after}
 
 pub data HandleCall : Type 0 where
   HashSetup : (alg : ℕ) → HandleCall
