@@ -9,3 +9,7 @@ into_states-states-requires c =
 pub loop-cell-preserved : goal.loop-cell-preserved
 loop-cell-preserved c =
     (All-pop (λ (x : OperationHandle). x.lease ≡ None) c.loop-cell.list.items c.pop.new.self.items c.pop.result c.pop.ensures.items c.loop-cell.invariant).0
+
+pub loop-cell-preserved-in-Some : goal.loop-cell-preserved-in-Some
+loop-cell-preserved-in-Some c =
+    (All-pop (λ (x : OperationHandle). x.lease ≡ None) c.loop-cell.list.items c.pop.new.self.items c.pop.result c.pop.ensures.items c.loop-cell.invariant).0
