@@ -1,9 +1,10 @@
 -- Whether the key of a handle's operation is still there, by what a turn says of the lease's number.
-use Rattle.callers.proofs.Common.{Active, Bool, Caller, DecidesAfter, Entry, Err, HandleOperation, HasNumber, InError, Inactive, IsAsked, IsCalled, IsOperation, IsRanked, IsReady, KeyCreation, KnowsAlive, KnowsBefore, KnowsTold, LeavesAllKeys, List, None, Ok, OnErr, OnHandle, OnOk, OnStore, Operation, OperationHandle, Option, Plain, Reading, Request, Result, Service, Some, Status, Success, Work, World, [], ap, arith, counted, false, get_or, held_with, inl, inr, is_active, is_alive, is_ok, key_of_operation, known_more, leaves_shared, may_change_keys, operation_at, option_map, outcome_of, plain_step, refl, rekeyed, replay, subst, sym, true, ℕ, ⊎_elim, ◌++◌, ◌-◌, ◌<◌, ◌∙◌, ◌∷◌, ◌≡◌, ◌≤◌, ◌⊎◌}
+use Rattle.callers.proofs.Common.{Active, Bool, Caller, DecidesAfter, Entry, Err, FaultMark, HandleOperation, HasNumber, InError, Inactive, IsAsked, IsCalled, IsOperation, IsRanked, IsReady, KeyCreation, KnowsAlive, KnowsBefore, KnowsTold, LeavesAllKeys, List, None, Ok, OnErr, OnHandle, OnOk, OnStore, Operation, OperationHandle, Option, Plain, Reading, Request, Result, Service, Some, Status, Success, Work, World, [], ap, arith, counted, false, get_or, held_with, inl, inr, is_active, is_alive, is_ok, key_of_operation, known_more, leaves_shared, may_change_keys, operation_at, option_map, outcome_of, plain_step, refl, rekeyed, replay, subst, sym, true, ℕ, ⊎_elim, ◌++◌, ◌-◌, ◌<◌, ◌∙◌, ◌∷◌, ◌≡◌, ◌≤◌, ◌⊎◌}
 use Rattle.store_model.specs.Store as model
+use Rattle.store_model.specs.Prelude.{MayBeMarked}
 use Rattle.store_model.proofs.LeftAll.{leaves_all}
 use Rattle.operation_handles.specs.Families.{embed_of}
-use Rattle.callers.proofs.{Journeys.called, Journeys.told_front, Readying.outcome_is, Rekeying.LivesBy, Rekeying.chosen, Rekeying.no_test, Supposed.by_after, Supposed.by_none, Supposed.standing, Supposed.supposed}
+use Rattle.callers.proofs.{Journeys.called, Journeys.told_front, Readying.outcome_is, Rekeying.LivesBy, Rekeying.chosen, Rekeying.no_test, Supposed.by_after, Supposed.by_none, Supposed.decides_as, Supposed.standing, Supposed.supposed}
 
 -- THE KEY OF A CELL
 
@@ -56,7 +57,7 @@ refused_store service caller (OnStore call) fails = ap (λ (s : Service). s.stor
 refused_store service caller (OnHandle handle call) fails = ap (λ (s : Service). s.store) (leaves_all service caller (OnHandle handle call) fails)
 
 -- what a store tells of the lease's number, and by that of the key
-abbrev Tells : (alive : Bool) → Reading → model.Store → Type 0
+abbrev pub Tells : (alive : Bool) → Reading → model.Store → Type 0
 Tells true lease m = HasNumber m lease.creation
 Tells false lease m = HasNumber m lease.creation → ⊥
 
@@ -67,6 +68,31 @@ either false lease m none = inr none
 alive_by : (alive : Bool) (lease : Reading) (m : model.Store) (key : Option KeyCreation) → Tells alive lease m → LivesBy m lease key → alive ≡ is_alive m key
 alive_by true lease m key has l = sym (l.lives has)
 alive_by false lease m key none l = sym (no_test (is_alive m key) (λ yes. none (l.has yes)))
+
+-- the key of a handle's operation, by its lease
+pub creation_at : {D A C : Type 0} (w : World D A C) (n : ℕ) (old : Caller D A C) (r : IsReady w n old) (handle : ℕ) → 1 ≤ handle → handle ≤ 4 → (cell : OperationHandle) → cell ≡ get_or old.handles.list.items (handle - 1) cell →
+    (lease : Reading) → cell.lease ≡ Some lease → (creation : KeyCreation) × (key_of_operation (operation_at r.operations handle) ≡ Some creation) × (creation.number ≡ lease.creation)
+creation_at w n old r handle first last cell at lease leased =
+    let inside : handle - 1 < 4 = omega arith in
+    leased_key cell (operation_at r.operations handle) lease (r.stand.each (handle - 1) cell inside at) (r.stand.over (handle - 1) cell inside at) leased
+
+-- a lease's number tells whether the key of a handle's operation is there, where P holds of the store as well
+module _ {D A C : Type 0} (w : World D A C) (n : ℕ) (old new : Caller D A C) (r : IsReady w n old) (turns : ℕ) (call : Request) (mark : FaultMark) (rank : ℕ) (before : List Entry) (e : Entry)
+    (c : IsCalled old.pass.me.0 new.pass.me.0 turns call mark rank before e) (handle : ℕ) (first : 1 ≤ handle) (last : handle ≤ 4) (cell : OperationHandle) (at : cell ≡ get_or old.handles.list.items (handle - 1) cell) where
+  pub asked_beside : (lease : Reading) (alive : Bool) → cell.lease ≡ Some lease → (P : model.Store → Type 0) → KnowsTold w (λ service. (outcome_of service e).service.store ≡ counted service.store) before e →
+      DecidesAfter w (λ m. Tells alive lease m × P m) before e →
+      ((service : Service) → IsAsked service old.number handle (operation_at r.operations handle) old.stream alive → P (counted service.store) → MayBeMarked service old.number call mark) →
+      KnowsBefore w (λ service. IsAsked service old.number handle (operation_at r.operations handle) old.stream alive × P (counted service.store)) before e
+  asked_beside lease alive leased P leaves tells may =
+      let creation = creation_at w n old r handle first last cell at lease leased in
+      known_more (λ service x. let h = x.holds in (record { key = h.0; operation_is = h.1; lives = h.2; random = x.random }, h.3))
+      (supposed w n old new r turns call mark rank before e c first last
+      (λ o m. (key : Option KeyCreation) × (o ≡ rekeyed key (operation_at r.operations handle)) × (alive ≡ is_alive m (key_of_operation o)) × P (counted m))
+      (by_after w (λ m. Tells alive lease m × P m) leaves tells)
+      (λ m told.
+      let x = chosen m (operation_at r.operations handle) lease creation.0 creation.1 creation.2 (either alive lease (counted m) told.0) in
+      let o = rekeyed x.0 (operation_at r.operations handle) in (o, x.1, (x.0, refl, alive_by alive lease (counted m) (key_of_operation o) told.0 (record { has = x.2.has; lives = x.2.lives }), told.1)))
+      (λ service x. let h = x.holds in may service (record { key = h.0; operation_is = h.1; lives = h.2; random = x.random }) h.3))
 
 module _ {D A C : Type 0} (w : World D A C) (n : ℕ) (old new : Caller D A C) (r : IsReady w n old) (turns : ℕ) (call : Request) (rank : ℕ) (before : List Entry) (e : Entry)
     (c : IsCalled old.pass.me.0 new.pass.me.0 turns call Plain rank before e) where
@@ -101,16 +127,8 @@ module _ {D A C : Type 0} (w : World D A C) (n : ℕ) (old new : Caller D A C) (
     -- with one, its number tells
     pub alive_with : (lease : Reading) (alive : Bool) → cell.lease ≡ Some lease → LeavesAllKeys w old.pass.me.0 call →
         DecidesAfter w (Tells alive lease) before e → Asks alive
-    alive_with lease alive leased leaves tells =
-        let creation = leased_key cell (operation_at r.operations handle) lease stands (r.stand.over (handle - 1) cell inside at) leased in
-        known_more (λ service x. let h = x.holds in record { key = h.0; operation_is = h.1; lives = h.2; random = x.random })
-        (supposed w n old new r turns call Plain rank before e c first last
-        (λ o m. (key : Option KeyCreation) × (o ≡ rekeyed key (operation_at r.operations handle)) × (alive ≡ is_alive m (key_of_operation o)))
-        (by_after w (Tells alive lease) (counts_only leaves) tells)
-        (λ m told.
-        let x = chosen m (operation_at r.operations handle) lease creation.0 creation.1 creation.2 (either alive lease (counted m) told) in
-        let o = rekeyed x.0 (operation_at r.operations handle) in (o, x.1, (x.0, refl, alive_by alive lease (counted m) (key_of_operation o) told (record { has = x.2.has; lives = x.2.lives }))))
-        (λ service s. tt))
+    alive_with lease alive leased leaves tells = known_more (λ service x. x.0)
+        (asked_beside w n old new r turns call Plain rank before e c handle first last cell at lease alive leased (λ m. Unit {0}) (counts_only leaves) (decides_as w before e tells (λ m told. (told, tt))) (λ service a p. tt))
 
 -- the ranked turn of a call that asks so
 module _ {D A C : Type 0} (w : World D A C) (n : ℕ) (old new : Caller D A C) (r : IsReady w n old) (call : Request) (rank : ℕ) (handle : ℕ) (first : 1 ≤ handle) (last : handle ≤ 4)

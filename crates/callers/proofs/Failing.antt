@@ -7,6 +7,8 @@ use Rattle.key_policy.specs.{declared.key_use.KeyUse.TheVariants.Export, declare
 use Rattle.service_calls.specs.declared.handle_calls.KeylessSetup.TheVariants as setup
 use Rattle.service_calls.specs.declared.store_calls.KeyedCall.TheVariants as call
 use Rattle.alg_encoding.specs.declared.table.Class.TheVariants as class
+use Rattle.store_model.specs.Prelude.{Wrapping, wrap_part, wrap_rows}
+use Rattle.operation_handles.specs.Wraps.{wrapped_by}
 use Rattle.store_model.specs.Aeads as aeads
 use Rattle.store_model.specs.Ciphers as ciphers
 use Rattle.store_model.specs.Macs as macs
@@ -192,6 +194,11 @@ unless_failed_plain (Some status) after refuses plain = refuses status refl
 pub key_refused_plainly : (alive : Bool) (operation : HandleOperation) (step : ℕ) → NoFault (key_refused alive operation step).reply.status
 key_refused_plainly alive operation step =
     on_part_plainly operation Deriving (part_of derivation_part operation) alive _ (λ w. unless_failed_plain (first_row (key_step_rows w step)) (goes_on w done) (refuses_plainly (key_step_rows w step) refl) refl)
+
+pub wrapped_plainly : (operation : HandleOperation) (key : List ℕ) (room : ℕ) → NoFault (wrapped_by operation key room).reply.status
+wrapped_plainly operation key room =
+    on_part_plainly operation Wrapping (part_of wrap_part operation) true _ (λ w.
+    unless_failed_plain (first_row (wrap_rows (length key) room)) _ (refuses_plainly (wrap_rows (length key) room) refl) refl)
 
 taken_plain : (w : DerivationWork) (n : ℕ) (reply : Reply) (short : Bool) → NoFault reply.status → NoFault (if short then exhausted w else goes_on (without w n) reply).reply.status
 taken_plain w n reply true plain = refl

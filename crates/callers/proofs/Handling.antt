@@ -1,7 +1,7 @@
 -- A caller after a call on a handle: a ranked turn, the handle's operation changed, and its lease given back where that is over.
 use Rattle.callers.proofs.Common.{Abort, After, All, All-push, AnswersReply, AreOperations, ArePairs, Bool, Caller, Done, Entry, FaultMark, HandleCall, HandleOperation, Handles, Held, IfSome, Inactive, IsAnswered, IsAsked, IsAt, IsBack, IsCalled, IsChanged, IsClear, IsEntered, IsRanked, IsReady, KeyCreation, KnowsAlive, KnowsBefore, KnowsTold, Legal, List, MayGoBack, None, Ok, OnHandle, Option, Output, Pairs, Plain, RandomStream, Reading, Request, Result, SameButPass, Served, Service, Some, Status, TellsFailure, View, World, [], ap, applied, arith, buffer_after, cond, count_by, done, drawn_from, draws_none, ends, entries_of, false, is_inactive, known_more, known_told, lease_pair, leases_of, length, length-append, model_step, names, next_bytes, not, operation_at, operation_of, outcome_of, pairs_of, refl, rekeyed, replay, serve, stepped_by, steps_are, subst, sym, true, vec_capacity, with_operation_at, without_pair, ℕ, ◌*◌, ◌++◌, ◌+◌, ◌-◌, ◌<◌, ◌==◌, ◌∙◌, ◌∷◌, ◌≡◌, ◌≤◌}
 use Rattle.service_calls.specs.declared.steps.Step.{Step}
-use Rattle.callers.proofs.{HandleLists.busy_put, HandleLists.few, HandleLists.named_alike, HandleLists.once, HandleLists.tally-cons, HandleLists.without, Journeys.called_then, Journeys.called, Readying.applied_answered, Readying.applied_there, Readying.ready, Readying.known, Readying.outcome_is, Supposed.at_store, Supposed.by_none}
+use Rattle.callers.proofs.{HandleLists.busy_put, HandleLists.few, HandleLists.named_alike, HandleLists.once, HandleLists.tally-cons, HandleLists.without, Looking.AreSpares, Looking.same_spares, Journeys.called_then, Journeys.called, Readying.applied_answered, Readying.applied_there, Readying.ready, Readying.known, Readying.outcome_is, Supposed.at_store, Supposed.by_none}
 
 pub names_few : (i k : ℕ) (own : Pairs) → names i k own ≤ length own
 names_few i k [] = omega arith
@@ -75,16 +75,16 @@ spent_back settled new (Some l) back = back.spent
 
 -- in a call, so many turns after it began
 module _ {D A C : Type 0} (w : World D A C) {n : ℕ} {old : Caller D A C} (r : IsReady w n old) (settled new : Caller D A C) {request : Request} {mark : FaultMark} {rank : ℕ} {before : List Entry} {e : Entry}
-    {t : ℕ} (turned : IsCalled old.pass.me.0 settled.pass.me.0 t request mark rank before e) (held : ArePairs settled.pass.me.0.holding old.pass.me.0.holding) (spares : settled.spares ≡ old.spares)
+    {t : ℕ} (turned : IsCalled old.pass.me.0 settled.pass.me.0 t request mark rank before e) (held : ArePairs settled.pass.me.0.holding old.pass.me.0.holding) (spares : AreSpares 0 old.spares settled.spares)
     {handle : ℕ} (after : After Held) {lease : Option Reading} (change : IsChanged old.handles.list.items settled.handles.list.items r.operations handle after.operation lease) where
   leases_are : ArePairs settled.pass.me.0.holding (leases_of old.handles.list.items)
   leases_are f = held f ∙ r.leases f
 
   five : length (leases_of old.handles.list.items) + length settled.spares.items ≡ 5
-  five = subst (λ x. length (leases_of old.handles.list.items) + length x.items ≡ 5) (sym spares) r.five
+  five = let a = spares.many in let b = r.five in omega arith
 
   room : 5 ≤ vec_capacity settled.spares
-  room = subst (λ x. 5 ≤ vec_capacity x) (sym spares) r.room
+  room = let a = spares.room in let b = r.room in omega arith
 
   pub goes_back : IfSome lease (MayGoBack settled)
   goes_back = may_go_back old settled new change leases_are five room
@@ -119,7 +119,7 @@ module _ {D A C : Type 0} (w : World D A C) {n : ℕ} {old : Caller D A C} (r : 
             stand = subst (λ x. AreOperations x.list.items (with_operation_at r.operations handle after.operation)) (sym l.handles) change.stand;
             own = applied_there w n old new r (spent_by lease) request mark rank before e made first last after applies place;
             leases = l.leases;
-            clear = l.clear (subst (λ x. All IsClear x.items) (sym spares) r.clear);
+            clear = l.clear spares.clear;
             five = l.five;
             room = subst (λ n. 5 ≤ n) (sym l.room) room;
             seed = ap (λ (s : RandomStream). s.seed) (l.stream ∙ stream);
@@ -149,7 +149,7 @@ module _ {D A C : Type 0} (w : World D A C) (old asking : Caller D A C) (r : IsR
   change = subst (λ h. IsChanged h.list.items handles.list.items r.operations handle after.operation lease) same.handles changed
 
   pub asked_back : IfSome lease (MayGoBack settled)
-  asked_back = goes_back w r settled settled (called ranked.after.entered) (same_out ranked.after.entered) same.spares after change
+  asked_back = goes_back w r settled settled (called ranked.after.entered) (same_out ranked.after.entered) (same_spares r.clear same.spares) after change
 
   -- the one-thread service applies this to the handle
   module _ (new : Caller D A C) (back : IsBack lease settled new) (first : 1 ≤ handle) (last : handle ≤ 4) {call : HandleCall} (asks : request ≡ OnHandle handle call)
@@ -169,11 +169,11 @@ module _ {D A C : Type 0} (w : World D A C) (old asking : Caller D A C) (r : IsR
 
     pub asked_ready : IsAt w new.pass → Legal w (entries_of new.pass.me.0.seen) → stream ≡ drawn_from old.stream after.drawn → stream.place ≤ old.stream.place + 256 → IsReady w 0 new
     asked_ready at legal drawn words =
-        handled_ready w r settled new (called ranked.after.entered) (same_out ranked.after.entered) same.spares after change back first last applies at legal same.number same.spent drawn words
+        handled_ready w r settled new (called ranked.after.entered) (same_out ranked.after.entered) (same_spares r.clear same.spares) after change back first last applies at legal same.number same.spent drawn words
         (let f = few (not (is_inactive after.operation)) in omega arith)
 
     pub asked_answered : (result : Result Output Status) (shown given : List ℕ) → TellsFailure w result Plain → AnswersReply result after.reply → given ≡ buffer_after shown after.reply → IsAnswered w old.pass.me.0 new.pass.me.0 request rank result shown given
-    asked_answered = handled_answered w r settled new (called ranked.after.entered) (same_out ranked.after.entered) same.spares after change back
+    asked_answered = handled_answered w r settled new (called ranked.after.entered) (same_out ranked.after.entered) (same_spares r.clear same.spares) after change back
         (known_more (λ service a. ap (λ (s : Served). s.reply) (served_as service ∙ serves service a) ∙ (ap (λ o. (stepping o).reply) a.operation_is ∙ (alike a.key (operation_at r.operations handle) ∙ ap (λ (x : After Held). x.reply) is_after))) asked)
 
 -- a step is the one-thread service's
@@ -200,10 +200,10 @@ module _ {D A C : Type 0} (w : World D A C) {n : ℕ} {old : Caller D A C} (r : 
   -- an operation that is over has no end that counted
   aborted_ready : 2 ≤ n + 2 * once (not (is_inactive (operation_at r.operations handle))) → IsAt w new.pass → Legal w (entries_of new.pass.me.0.seen) → settled.number ≡ old.number → settled.stream ≡ old.stream → settled.spent ≡ old.spent → IsReady w 0 new
   aborted_ready pays at legal number stream spent =
-      handled_ready w r settled new (called i) (same_out i) spares (ends done) change back first last (known_told aborts) at legal number spent (stream ∙ draws_none old.stream) (let p = ap (λ s. s.place) stream in omega arith) (omega (arith, pays))
+      handled_ready w r settled new (called i) (same_out i) (same_spares r.clear spares) (ends done) change back first last (known_told aborts) at legal number spent (stream ∙ draws_none old.stream) (let p = ap (λ s. s.place) stream in omega arith) (omega (arith, pays))
 
   pub aborted_answered : (buffer : List ℕ) → IsAnswered w old.pass.me.0 new.pass.me.0 request rank (Ok Done) buffer buffer
-  aborted_answered buffer = handled_answered w r settled new (called i) (same_out i) spares (ends done) change back (known_more (λ service same. ap (λ (s : Served). s.reply) same) aborts) (Ok Done) buffer buffer (λ start is. refl) refl refl
+  aborted_answered buffer = handled_answered w r settled new (called i) (same_out i) (same_spares r.clear spares) (ends done) change back (known_more (λ service same. ap (λ (s : Served). s.reply) same) aborts) (Ok Done) buffer buffer (λ start is. refl) refl refl
 
 -- by whether the operation was inactive, and the abort has counted
 pub aborted : {D A C : Type 0} (w : World D A C) {old : Caller D A C} (r : IsReady w 0 old) (settled new : Caller D A C) {request : Request} {rank : ℕ} {before : List Entry} {e : Entry} {handle : ℕ} {lease : Option Reading} →

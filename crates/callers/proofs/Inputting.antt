@@ -1,5 +1,5 @@
 -- A caller after a call that gives a derivation a key.
-use Rattle.callers.proofs.Common.{Active, After, Bool, Caller, DecidesAfter, DerivationWork, Deriving, Entry, Err, FaultMark, HandleOperation, Held, HoldsLease, InError, Inactive, InputKey, IsAnswered, IsAsked, IsAt, IsChanged, IsEntered, IsLent, IsReady, IsRefused, KeyCreation, KeyUse, KnowsBefore, Legal, List, None, Ok, OnHandle, Operation, Option, Own, Pairs, Plain, RandomStream, Reading, ReadsKey, RefusesKeyAt, Request, Service, Some, Status, TakesKeyAt, World, ap, applied, arith, bytes_of, counted, creation_of, derivation_part, done, entries_of, fails, failure_marked, false, first_row, goes_on, handle_step, id_read, if◌then◌else◌, is_alive, is_inactive, is_some, key_refused, key_step_rows, known_more, lease_pair, mark_of, may_change_keys, not, on_part, operation_at, operation_of, outcome_of, own_of, part_of, refl, refusal, rekeyed, replay, serve, subst, sym, takes_key, true, unless_failed, use_refusal, with_key, with_operation, with_own, ℕ, ◌-◌, ◌∙◌, ◌∷◌, ◌≡◌, ◌≤◌}
+use Rattle.callers.proofs.Common.{Active, After, Bool, Caller, DecidesAfter, DerivationWork, Deriving, Entry, Err, FaultMark, HandleOperation, Held, HoldsLease, InError, Inactive, InputKey, IsAnswered, IsAsked, IsAt, IsChanged, IsEntered, IsLent, IsReady, IsRefused, KeyCreation, KeyUse, KnowsBefore, Legal, List, None, Ok, OnHandle, Operation, Option, Own, Pairs, Plain, RandomStream, Reading, ReadsKey, RefusesKeyAt, Request, Service, Some, Status, TakesKeyAt, Work, World, ap, applied, arith, bytes_of, counted, creation_of, derivation_part, done, entries_of, fails, failure_marked, false, first_row, goes_on, handle_step, id_read, if◌then◌else◌, is_alive, is_inactive, is_some, key_refused, key_step_rows, known_more, lease_pair, mark_of, may_change_keys, not, on_part, operation_at, operation_of, outcome_of, own_of, part_of, refl, refusal, rekeyed, replay, serve, subst, sym, takes_key, true, unless_failed, use_refusal, with_key, with_operation, with_own, ℕ, ◌-◌, ◌∙◌, ◌∷◌, ◌≡◌, ◌≤◌}
 use Rattle.psa_status.specs.declared.Status.TheVariants as status
 use Rattle.service_calls.specs.declared.output.Output.TheVariants as output
 use Rattle.store_model.specs.KeyUse as held
@@ -10,19 +10,19 @@ use Rattle.callers.proofs.{Readying.outcome_is, Readying.own_there, SettingUp.un
 
 -- THE ONE-THREAD SERVICE
 
+-- a device failed
+pub lost : (service : Service) (caller handle : ℕ) (why : Status) → record { service = with_own service (counted service.store) caller (with_operation (own_of service caller) handle InError); reply = refusal why } ≡ applied service caller handle (fails why)
+lost service caller handle why = ap (λ (own : Own). record { service = with_own service (counted service.store) caller own; reply = refusal why }) (undrawn_own (with_operation (own_of service caller) handle InError))
+
 module _ (service : Service) (caller handle step id : ℕ) (wanted : KeyUse) (takes : TakesKeyAt (operation_of service caller handle) step wanted) where
   pub reads_input : id_read service caller (OnHandle handle (InputKey step id)) ≡ Some id
   reads_input =
       (λ i. if takes_key service.store (takes.derives i) (is_alive service.store (takes.no_key i)) step then Some id else None)
       ∙ ap (λ row. if not (is_some row) then Some id else None) takes.due
 
-  -- a device failed
-  lost : (why : Status) → record { service = with_own service (counted service.store) caller (with_operation (own_of service caller) handle InError); reply = refusal why } ≡ applied service caller handle (fails why)
-  lost why = ap (λ (own : Own). record { service = with_own service (counted service.store) caller own; reply = refusal why }) (undrawn_own (with_operation (own_of service caller) handle InError))
-
   pub input_refused : (why : Status) → IsRefused (use_refusal wanted) id why (counted service.store) → serve service caller (OnHandle handle (InputKey step id)) (mark_of why) ≡ applied service caller handle (fails why)
-  input_refused status.StorageFailure row = lost status.StorageFailure
-  input_refused status.DataCorrupt row = lost status.DataCorrupt
+  input_refused status.StorageFailure row = lost service caller handle status.StorageFailure
+  input_refused status.DataCorrupt row = lost service caller handle status.DataCorrupt
   input_refused why row = inputs.unfit service caller handle step id wanted why takes row
 
   abbrev pub taken_by : Reading → DerivationWork → After Held
@@ -113,14 +113,14 @@ reads_secret w old r request handle step id wanted first last asks takes start i
 
 -- A STEP THAT TAKES NO KEY
 
-pub refused_drawn : (key : Option KeyCreation) (own : Operation DerivationWork) (alive : Bool) (f : DerivationWork → After DerivationWork) (o : HandleOperation) → ((w : DerivationWork) → (f w).drawn ≡ 0) → (on_part o Deriving own alive f).drawn ≡ 0
-refused_drawn key (Active w) true f o none = none w
-refused_drawn key (Active w) false f o none = refl
-refused_drawn key Inactive alive f o none = refl
-refused_drawn key InError alive f o none = refl
+pub refused_drawn : {W : Type 0} (embed : W → Work) (own : Operation W) (alive : Bool) (f : W → After W) (o : HandleOperation) → ((w : W) → (f w).drawn ≡ 0) → (on_part o embed own alive f).drawn ≡ 0
+refused_drawn embed (Active w) true f o none = none w
+refused_drawn embed (Active w) false f o none = refl
+refused_drawn embed Inactive alive f o none = refl
+refused_drawn embed InError alive f o none = refl
 
 pub refusal_draws_none : (alive : Bool) (o : HandleOperation) (step : ℕ) → (key_refused alive o step).drawn ≡ 0
-refusal_draws_none alive o step = refused_drawn None (part_of derivation_part o) alive (λ w. unless_failed (first_row (key_step_rows w step)) (goes_on w done)) o (λ w. by w (first_row (key_step_rows w step)))
+refusal_draws_none alive o step = refused_drawn Deriving (part_of derivation_part o) alive (λ w. unless_failed (first_row (key_step_rows w step)) (goes_on w done)) o (λ w. by w (first_row (key_step_rows w step)))
   where
     by : (w : DerivationWork) (row : Option Status) → (unless_failed row (goes_on w done)).drawn ≡ 0
     by w None = refl

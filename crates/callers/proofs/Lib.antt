@@ -28,3 +28,4 @@ pub mod Outputting
 pub mod Retiring
 pub mod Starting
 pub mod Learning
+pub mod LookingToWrap

@@ -5,7 +5,7 @@ use Rattle.store_model.specs.Prelude.{MayBeMarked, given as given_bytes}
 use Rattle.derivation_states.specs.KeySteps as alone
 use Rattle.callers.proofs.{Asking.leased_key, Asking.unleased_key, Beginning.at_handle, HandleLists.busy_put, HandleLists.cell_at, HandleLists.named_alike, HandleLists.names_is, HandleLists.names_lease, HandleLists.once, HandleLists.tally-cons, Supposed.DecidesAt, Supposed.IsSupposed, Supposed.by_before, Supposed.supposed}
 use Rattle.callers.proofs.Deriving.{IsLeaseOf, IsOneFor, LivesAs, TellsOf, lease_lives, made_tells, one_for, unmade_tells, derived_leaves, derived_replies, made_owns, underived_key, underived_marked}
-use Rattle.callers.proofs.{Handling.handled_answered, Handling.handled_ready, Inputting.derives_busy, Inputting.refused_drawn, Made.made_gives, Owned.set_operation, Owned.set_own, Owned.sound_replay, Readying.answered, Readying.known, Readying.outcome_is, Readying.own_there, Readying.ready, SettingUp.undrawn_own, Storing.decided_known, Rekeying.part_rekeyed, Rekeying.part_replies}
+use Rattle.callers.proofs.{Handling.handled_answered, Handling.handled_ready, Inputting.derives_busy, Inputting.refused_drawn, Looking.same_spares, Made.made_gives, Owned.set_operation, Owned.set_own, Owned.sound_replay, Readying.answered, Readying.known, Readying.outcome_is, Readying.own_there, Readying.ready, SettingUp.undrawn_own, Storing.decided_known, Rekeying.part_rekeyed, Rekeying.part_replies}
 
 -- the lease of a handle is of its operation's key
 lease_of : (cell : OperationHandle) (operation : HandleOperation) → IsOperation cell operation → (is_active operation ≡ false → cell.lease ≡ None) → IsLeaseOf cell.lease (key_of_operation operation)
@@ -196,17 +196,17 @@ module _ {D A C : Type 0} (w : World D A C) (old : Caller D A C) (r : IsReady w 
 
       pub unmade_ready : settled.number ≡ old.number → settled.stream ≡ old.stream → settled.spent ≡ old.spent → IsAt w new.pass → Legal w (entries_of new.pass.me.0.seen) → IsReady w 0 new
       unmade_ready number stream spent at legal =
-          handled_ready w r settled new c.called c.holding spares (fails (status_unmade why)) change back first last (known_told applies) at legal number spent (stream ∙ draws_none old.stream) (let p = ap (λ (s : RandomStream). s.place) stream in omega arith)
+          handled_ready w r settled new c.called c.holding (same_spares r.clear spares) (fails (status_unmade why)) change back first last (known_told applies) at legal number spent (stream ∙ draws_none old.stream) (let p = ap (λ (s : RandomStream). s.place) stream in omega arith)
           (let o = ap (λ x. once (not x)) (derives_busy (operation_at r.operations handle) given.work given.derives) in omega arith)
 
       pub unmade_answered : TellsFailure w (Err (status_unmade why)) (mark_unmade why) → (buffer : List ℕ) → IsAnswered w old.pass.me.0 new.pass.me.0 request rank (Err (status_unmade why)) buffer buffer
       unmade_answered failure buffer =
-          handled_answered w r settled new c.called c.holding spares (fails (status_unmade why)) change back (known_more (λ service same. ap (λ (s : Served). s.reply) same) applies) (Err (status_unmade why)) buffer buffer failure (refl, refl) refl
+          handled_answered w r settled new c.called c.holding (same_spares r.clear spares) (fails (status_unmade why)) change back (known_more (λ service same. ap (λ (s : Served). s.reply) same) applies) (Err (status_unmade why)) buffer buffer failure (refl, refl) refl
 
 -- A KEY THAT THE DERIVATION REFUSES
 
 pub output_draws_none : (alive : Bool) (o : HandleOperation) (a : Attributes) → (derived_key_refused alive o a).drawn ≡ 0
-output_draws_none alive o a = refused_drawn None (part_of derivation_part o) alive (λ w. alone.derived_key_bytes w a) o (λ w. by w (first_row (output_key_rows w a)))
+output_draws_none alive o a = refused_drawn Deriving (part_of derivation_part o) alive (λ w. alone.derived_key_bytes w a) o (λ w. by w (first_row (output_key_rows w a)))
   where
     taken : (short : Bool) (w : DerivationWork) (n : ℕ) (reply : Reply) → (if short then exhausted w else goes_on (without w n) reply).drawn ≡ 0
     taken true w n reply = refl

@@ -1,6 +1,8 @@
 -- Calls on a handle's wrapping operation.
-use Rattle.std.specs.Prelude.{ℕ, ◌≡◌, ◌⊎◌, false, List, Some}
-use Rattle.psa_status.specs.{declared.Status.Status, declared.Status.TheVariants.BadState}
+use Rattle.std.specs.Prelude.{ℕ, ◌≡◌, ◌⊎◌, Bool, false, true, List, Some}
+use Rattle.psa_status.specs.{declared.Status.Status, declared.Status.TheVariants.BadState, declared.Status.TheVariants.InvalidHandle}
+use Rattle.secret_bytes.specs.Buffer.{Buffer}
+use Rattle.store_core.specs.{declared.looks.NotLent.NotLent, declared.looks.NotLent.TheVariants.OwnKeyGone, declared.looks.NotLent.TheVariants.Refused}
 use Rattle.key_attributes.specs.declared.Attributes.{Attributes}
 use Rattle.wrap_states.specs.Calls.{unwrap_refusal, wraps_keys}
 use Rattle.store_model.specs.Prelude.{HandleOperation, OnHandle, Request, UnwrapKey, WrapKey, part_of, wrap_part}
@@ -15,3 +17,8 @@ RefusesCall operation op request status =
 abbrev pub RefusesWrapping : {D A C : Type 0} → Caller D A C → (op : ℕ) → Request → Status → Type 0
 RefusesWrapping caller op request status =
     (operations : List HandleOperation) → AreOperations caller.handles.list.items operations → RefusesCall (operation_at operations op) op request status
+
+-- whether an operation's own key is still there that was lent no other, why, and the spare
+abbrev pub parts_of : NotLent → Bool × Status × Buffer
+parts_of (OwnKeyGone spare) = (false, InvalidHandle, spare)
+parts_of (Refused status spare) = (true, status, spare)

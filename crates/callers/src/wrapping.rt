@@ -7,7 +7,7 @@ ghost use Rattle.store_model.specs.Prelude.{Active, HandleOperation, UnwrapKey, 
 ghost use Rattle.wrap_states.specs.Calls.{unwrap_refusal, wraps_keys};
 ghost use Rattle.operation_handles.specs.declared.handle.OperationHandle.{OperationHandle};
 ghost use Rattle.callers.specs.Prelude.{AreOperations, IsReady, IsServed, IsServedUnwritten, operation_at};
-ghost use Rattle.callers.specs.Wrapping.{RefusesWrapping};
+ghost use Rattle.callers.specs.Wrapping.{RefusesWrapping, parts_of};
 ghost use Rattle.locked_store.specs.Prelude.{world};
 
 use crate::caller::Caller;
@@ -20,7 +20,19 @@ use locked_store::SharedStore;
 use psa_status::Status;
 use service_calls::{Call, Op, Output};
 use std::sync::Wait;
+use secret_bytes::Secret;
+use store_core::NotLent;
 use wrap_states::{KEY_ROOM, wipe_room};
+
+// Whether an operation's own key is still there that was lent no other, why, and the spare.
+fn parts_of(refused: NotLent) -> (bool, Status, Secret)
+    ensures { result ≡ parts_of refused }
+{
+    match refused {
+        NotLent::OwnKeyGone(spare) => (false, Status::InvalidHandle, spare),
+        NotLent::Refused(status, spare) => (true, status, spare),
+    }
+}
 
 impl<D: Disk, A: Devices, C: Admission> Caller<D, A, C> {
     /// Creates a key of a text that a handle's operation unwraps, and answers its rank beside its identifier. A refusal puts
@@ -174,7 +186,7 @@ impl<D: Disk, A: Devices, C: Admission> Caller<D, A, C> {
                 (rank, wrapped)
             }
             Err(refused) => {
-                let (alive, status, spare) = refused.into_parts();
+                let (alive, status, spare) = parts_of(refused);
                 self.spares.push_reserved(spare);
                 let (status, own) = self.handles.refuse_wrapping(op, alive, status);
                 self.give_back(rt, shared, own);

@@ -1,10 +1,10 @@
-use Rattle.callers.proofs.{Common.ap, Common.done, Common.ends, Common.model_request, Common.refl, Common.world, Handling.aborted, Handling.aborted_answered, Handling.goes_back, Handling.same_out, Handling.spent_back, Journeys.called}
+use Rattle.callers.proofs.{Common.ap, Common.done, Common.ends, Common.model_request, Common.refl, Common.world, Handling.aborted, Handling.aborted_answered, Handling.goes_back, Handling.same_out, Handling.spent_back, Journeys.called, Looking.same_spares}
 use Rattle.callers.proofs.caller.Caller.abort.Goals as goal
 
 pub give_back-requires-clause-lent : goal.give_back-requires-clause-lent
 give_back-requires-clause-lent g c κs within =
     let r = c.requires.ready in let i = c.count-rank.ensures.counted.after.entered in let settled = record c.args.self.now { pass = c.count-rank.new.pass; handles = c.abort-lease.new.self } in
-    goes_back (world c.args.shared.now) r settled settled (called i) (same_out i) refl (ends done) (c.abort-lease.ensures.changed r.operations r.stand)
+    goes_back (world c.args.shared.now) r settled settled (called i) (same_out i) (same_spares r.clear refl) (ends done) (c.abort-lease.ensures.changed r.operations r.stand)
 
 pub returns : goal.returns
 returns g c =

@@ -1,5 +1,5 @@
 use Rattle.callers.proofs.Common.{DecidesBefore, IsMade, IsRanked, IsUnmade, Plain, RecordsStated, ap, fails, filling_pair, length, mark_unmade, model_request, option_map, refl, status_unmade, take, without_pair, world, ◌∷◌}
-use Rattle.callers.proofs.{Handling.goes_back, Handling.spent_back, Failing.stated_plainly, Failing.unmade_tells}
+use Rattle.callers.proofs.{Handling.goes_back, Handling.spent_back, Failing.stated_plainly, Failing.unmade_tells, Looking.same_spares}
 use Rattle.callers.proofs.{Outputting.derived_creates, Outputting.failed, Outputting.output_answered, Outputting.output_ready, Outputting.taken, Outputting.taken_is_out, Outputting.unmade_answered, Outputting.unmade_ready, Storing.created_in, Storing.creates_on, Storing.has_no_filling, Storing.if_err, Storing.if_ok}
 use Rattle.callers.proofs.caller.Caller.derive_key.Goals as goal
 
@@ -45,7 +45,7 @@ give_back-requires-clause-lent g c κs within =
     let created = created_in filling c.reserve-filling.ensures.later
     (if_err (λ why. IsRanked u x request (mark_unmade why) c.finish-rank.result.0 (without_pair (filling_pair filling) u.holding) (DecidesBefore w (IsUnmade (RecordsStated lease old.number a (length bytes)) why))) c.finish-rank.result.1 c.in-Err.is c.finish-rank.ensures.unmade) in
     let settled = record old { pass = c.finish-rank.new.pass; handles = c.fail_output-lease.new.self } in
-    goes_back w r settled settled created.called created.holding refl (fails (status_unmade c.in-Err.why)) (failed old r c.args.op a mid.list.items lease first last c.lease-lease.ensures.lease given settled.handles.list.items c.fail_output-lease.result c.fail_output-lease.ensures)
+    goes_back w r settled settled created.called created.holding (same_spares r.clear refl) (fails (status_unmade c.in-Err.why)) (failed old r c.args.op a mid.list.items lease first last c.lease-lease.ensures.lease given settled.handles.list.items c.fail_output-lease.result c.fail_output-lease.ensures)
 
 pub returns-in-Err : goal.returns-in-Err
 returns-in-Err g c =
