@@ -1,5 +1,5 @@
 -- A caller after a call that looks for a key to wrap.
-use Rattle.callers.proofs.Common.{Active, After, AnswersReply, ArePairs, Bool, Caller, DecidesAfter, Entry, Err, FaultMark, HandleOperation, HasNumber, Held, IfSome, InError, Inactive, InvalidHandle, IsAnswered, IsAsked, IsAt, IsBack, IsCalled, IsClear, IsRanked, View, Opened, Buffer, world, model_request, IsChanged, IsEntered, IsGivenBack, IsLent, IsReady, IsRefused, IsSoundOperation, KnowsBefore, KnowsTold, Legal, List, MayGoBack, None, OnHandle, Operation, OperationHandle, Option, Output, Pairs, Plain, Reading, Reply, Request, Result, Served, Service, Some, Status, Store, TellsFailure, World, ap, applied, arith, buffer_after, bytes_of, bytes_of_key, count_by, counted, draws_none, drawn_from, entries_of, failure_marked, failure_told, fails, false, first_row, get_or, has_live_key, id_read, if◌then◌else◌, inl, is_alive, is_inactive, key_of_operation, known_more, known_told, lease_pair, length, mark_of, may_change_keys, names, not, on_part, operation_at, operation_of, outcome_of, part_of, refl, refusal, rekeyed, replay, serve, start_of, subst, sym, true, unless_failed, use_refusal, without_pair, ℕ, ◌+◌, ◌-◌, ◌<◌, ◌∙◌, ◌∷◌, ◌≡◌, ◌≤◌}
+use Rattle.callers.proofs.Common.{Active, After, AnswersReply, ArePairs, Bool, Buffer, Caller, DecidesAfter, Entry, Err, FaultMark, HandleOperation, HasNumber, Held, IfSome, InError, Inactive, IsAnswered, IsAsked, IsAt, IsBack, IsCalled, IsChanged, IsClear, IsEntered, IsGivenBack, IsLent, IsRanked, IsReady, IsRefused, IsSoundOperation, KnowsBefore, KnowsTold, Legal, List, MayGoBack, None, OnHandle, Opened, Operation, OperationHandle, Option, Output, Pairs, Plain, Reading, Reply, Request, Result, Served, Service, Some, Status, Store, TellsFailure, View, World, ap, applied, arith, buffer_after, bytes_of, bytes_of_key, count_by, counted, drawn_from, draws_none, entries_of, fails, failure_marked, failure_told, false, first_row, get_or, has_live_key, id_read, if◌then◌else◌, inl, is_alive, is_inactive, key_of_operation, known_more, known_told, lease_pair, length, mark_of, may_change_keys, model_request, names, not, on_part, operation_at, operation_of, outcome_of, part_of, refl, refusal, rekeyed, replay, serve, start_of, subst, sym, true, unless_failed, use_refusal, without_pair, world, ℕ, ◌+◌, ◌-◌, ◌<◌, ◌∙◌, ◌∷◌, ◌≡◌, ◌≤◌}
 use Rattle.psa_status.specs.declared.Status.TheVariants as status
 use Rattle.key_policy.specs.declared.key_use.KeyUse.TheVariants.{Export}
 use Rattle.store_model.specs.Prelude.{MayBeMarked, WrapKey, WrapWork, Wrapping, goes_on, key_wrapped, wrap_part, wrap_rows, wraps_key}

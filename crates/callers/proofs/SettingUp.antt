@@ -3,17 +3,18 @@ use Rattle.callers.proofs.Common.{Active, AeadSetup, After, Bool, CipherSetup, D
 use Rattle.std.specs.FinMap as map
 use Rattle.psa_status.specs.declared.Status.TheVariants as status
 use Rattle.service_calls.specs.declared.handle_calls.KeylessSetup.TheVariants as keyless
-use Rattle.service_calls.specs.{declared.handle_calls.Purpose.Purpose, declared.handle_calls.Purpose.TheVariants.SignMac, declared.handle_calls.Purpose.TheVariants.VerifyMac, declared.handle_calls.Purpose.TheVariants.EncryptCipher, declared.handle_calls.Purpose.TheVariants.DecryptCipher, declared.handle_calls.Purpose.TheVariants.EncryptAead, declared.handle_calls.Purpose.TheVariants.DecryptAead}
+use Rattle.service_calls.specs.{declared.handle_calls.Purpose.Purpose, declared.handle_calls.Purpose.TheVariants.SignMac, declared.handle_calls.Purpose.TheVariants.VerifyMac, declared.handle_calls.Purpose.TheVariants.EncryptCipher, declared.handle_calls.Purpose.TheVariants.DecryptCipher, declared.handle_calls.Purpose.TheVariants.EncryptAead, declared.handle_calls.Purpose.TheVariants.DecryptAead, declared.handle_calls.Purpose.TheVariants.UnwrapKeys, declared.handle_calls.Purpose.TheVariants.WrapKeys}
 use Rattle.store_model.specs.KeyUse as held
+use Rattle.store_model.specs.Prelude.{WrapSetup}
 use Rattle.callers.proofs.HandleLists.{once}
 
 -- what is so of the setups without a key and of those with one
 each_setup : (P : HandleCall → Type 0) → ((alg : ℕ) → P (HashSetup alg)) → ((verifies : Bool) (key alg : ℕ) → P (MacSetup verifies key alg)) →
     ((encrypts : Bool) (key alg : ℕ) → P (CipherSetup encrypts key alg)) → ((encrypts : Bool) (key alg : ℕ) → P (AeadSetup encrypts key alg)) →
-    ((alg : ℕ) → P (DerivationSetup alg)) → (s : Setup) → P (model_setup s)
-each_setup P hash mac cipher aead derivation (Keyless (keyless.Hash alg)) = hash alg.0
-each_setup P hash mac cipher aead derivation (Keyless (keyless.Derivation alg)) = derivation alg.0
-each_setup P hash mac cipher aead derivation (Keyed s) = by s.purpose
+    ((alg : ℕ) → P (DerivationSetup alg)) → ((wraps : Bool) (key alg : ℕ) → P (WrapSetup wraps key alg)) → (s : Setup) → P (model_setup s)
+each_setup P hash mac cipher aead derivation wrap (Keyless (keyless.Hash alg)) = hash alg.0
+each_setup P hash mac cipher aead derivation wrap (Keyless (keyless.Derivation alg)) = derivation alg.0
+each_setup P hash mac cipher aead derivation wrap (Keyed s) = by s.purpose
   where
     by : (purpose : Purpose) → P (model_keyed_setup purpose s.key.0 s.alg.0)
     by SignMac = mac false s.key.0 s.alg.0
@@ -22,10 +23,12 @@ each_setup P hash mac cipher aead derivation (Keyed s) = by s.purpose
     by DecryptCipher = cipher false s.key.0 s.alg.0
     by EncryptAead = aead true s.key.0 s.alg.0
     by DecryptAead = aead false s.key.0 s.alg.0
+    by WrapKeys = wrap true s.key.0 s.alg.0
+    by UnwrapKeys = wrap false s.key.0 s.alg.0
 
 pub quiet : (handle : ℕ) (s : Setup) → may_change_keys (OnHandle handle (model_setup s)) ≡ false
 quiet handle =
-    each_setup (λ call. may_change_keys (OnHandle handle call) ≡ false) (λ alg. refl) (λ verifies key alg. refl) (λ encrypts key alg. refl) (λ encrypts key alg. refl) (λ alg. refl)
+    each_setup (λ call. may_change_keys (OnHandle handle call) ≡ false) (λ alg. refl) (λ verifies key alg. refl) (λ encrypts key alg. refl) (λ encrypts key alg. refl) (λ alg. refl) (λ wraps key alg. refl)
 
 -- a setup reads its key where the operation is inactive
 pub reads : (service : Service) (caller handle : ℕ) (s : KeyedSetup) → is_inactive (operation_of service caller handle) ≡ true →
@@ -39,6 +42,8 @@ reads service caller handle s free = by s.purpose
     by DecryptCipher = ap (λ b. if b then Some s.key.0 else None) free
     by EncryptAead = ap (λ b. if b then Some s.key.0 else None) free
     by DecryptAead = ap (λ b. if b then Some s.key.0 else None) free
+    by WrapKeys = ap (λ b. if b then Some s.key.0 else None) free
+    by UnwrapKeys = ap (λ b. if b then Some s.key.0 else None) free
 
 -- an operation that is set up already stays
 pub set_up_twice : (store : Store) (operation : HandleOperation) (s : Setup) → is_inactive operation ≡ false → set_up_by store operation s ≡ stays operation status.BadState
@@ -82,7 +87,7 @@ set_up_lent store s wanted lease uses (k, found, free, is) =
     ∙ (λ i. set_up Inactive (free i) (record { key = Some (record { id = s.key.0; number = sym is.number i }); work = work_begun s.purpose s.alg.0 (sym is.bytes i) })))
 
 is_set_up : (s : Setup) → is_setup (model_setup s) ≡ true
-is_set_up = each_setup (λ call. is_setup call ≡ true) (λ alg. refl) (λ verifies key alg. refl) (λ encrypts key alg. refl) (λ encrypts key alg. refl) (λ alg. refl)
+is_set_up = each_setup (λ call. is_setup call ≡ true) (λ alg. refl) (λ verifies key alg. refl) (λ encrypts key alg. refl) (λ encrypts key alg. refl) (λ alg. refl) (λ wraps key alg. refl)
 
 pub still : (place n : ℕ) → n ≡ 0 → place ≡ place + words_used n
 still place n none = (let z : place ≡ place + words_used 0 = omega arith in z) ∙ ap (λ k. place + words_used k) (sym none)

@@ -18,9 +18,9 @@ use driver_dispatch::Devices;
 use key_attributes::{Attributes, KeyId};
 use locked_store::SharedStore;
 use psa_status::Status;
+use secret_bytes::Secret;
 use service_calls::{Call, Op, Output};
 use std::sync::Wait;
-use secret_bytes::Secret;
 use store_core::NotLent;
 use wrap_states::{KEY_ROOM, wipe_room};
 

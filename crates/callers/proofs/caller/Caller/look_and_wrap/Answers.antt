@@ -1,7 +1,7 @@
-use Rattle.callers.proofs.Common.{DecidesAfter, HasNumber, IsClear, IsLent, IsRanked, Plain, OperationHandle, ap, arith, false≢true, get_or, is_some, lease_pair, length, model_request, operation_at, option_map, refl, subst, sym, use_refusal, world, ◌-◌, ◌∙◌, ◌∷◌, ◌≡◌}
+use Rattle.callers.proofs.Common.{DecidesAfter, HasNumber, IsClear, IsLent, IsRanked, Plain, OperationHandle, ap, arith, false≢true, get_or, is_some, lease_pair, length, model_request, option_map, refl, subst, sym, use_refusal, world, ◌-◌, ◌∙◌, ◌∷◌, ◌≡◌}
 use Rattle.key_policy.specs.declared.key_use.KeyUse.TheVariants.{Export}
 use Rattle.locked_store.specs.Ranked.{RanksUnlent}
-use Rattle.callers.proofs.{HandleLists.cell_at, Handling.spent_back, Looking.has_room_for_lease, Looking.has_spare, Looking.popped, Looking.put_back, Storing.if_err, Storing.if_ok}
+use Rattle.callers.proofs.{HandleLists.cell_at, Handling.spent_back, Looking.has_spare, Looking.popped, Looking.put_back, Storing.if_err, Storing.if_ok}
 use Rattle.callers.proofs.LookingToWrap.{own_goes_back, own_is_out, reads_beside, refused_answered, refused_back, refused_ready, unlent, wrapped_answered, wrapped_ready}
 use Rattle.callers.proofs.caller.Caller.look_and_wrap.Goals as goal
 

@@ -1,4 +1,4 @@
-use Rattle.callers.proofs.Common.{HandleOperation, List, ap, inl, length, model_request, refl, sym, ◌∙◌}
+use Rattle.callers.proofs.Common.{ap, inl, length, model_request, refl, sym, ◌∙◌}
 use Rattle.callers.proofs.caller.Caller.wrap_key.Goals as goal
 
 pub refuse_wrapping-requires-clause-refuses : goal.refuse_wrapping-requires-clause-refuses
