@@ -29,3 +29,4 @@ pub mod Retiring
 pub mod Starting
 pub mod Learning
 pub mod LookingToWrap
+pub mod RefusedWraps
