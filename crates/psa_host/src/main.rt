@@ -1,28 +1,14 @@
 //! The program of the key store: it answers a script of calls by one reply line a call.
 //!
-//! What is proved:
-//!
-//! - `End::status`; `store_file`, `EndsUnopened`; what `without_keys` and `with_element` require: the program's status is
-//!   its end's: that of the run, or 6 for `NotOpened`. Where `store_file` gives no file, the file is refused, or the words
-//!   are no command (`Usage`), or are one and memory ran out; its secure element has no key at first, and each of its
-//!   rules stands alone under its label.
+//! What is proved stands in `host_parts`: the program's status is its end's; without the store's file it ends as
+//! `EndsUnopened` says.
 #![tactic(auto)]
 
-mod opening;
-mod store;
-
-ghost use Rattle.std.specs.Prelude.{◌≡◌};
-ghost use Rattle.psa_host.specs.Program.{end_status};
-
-use opening::Refusal;
+use host_parts::{End, Refusal, answer, arguments, hold_closed_streams, run_store};
 use psa_command::Exit;
-use std::io::{self, ErrorKind};
-use std::os::fd::{AsRawFd, IntoRawFd};
+use std::io;
 use std::process::ExitCode;
-use std::sync::Wait;
-use std::thread::Threads;
-use std::{env, fs};
-use store::run_store;
+use stream_adapters::{Reading, Writing};
 
 const USAGE: &str =
     "usage: psa_host STORE (run [--workers N] [--seed HEX64] [--rules LABELS] | generate N)";
@@ -76,87 +62,15 @@ const VERSION: &str = "\
 psa_host 0.1.0
 Proved with rattle-kit-13f logic dac8208d650f15bf";
 
-/// How the program ended: as a run did, or before it, since the store's file isn't opened.
-#[derive(Drop)]
-pub enum End {
-    Run(Exit),
-    NotOpened(Refusal),
-}
-
-impl End {
-    /// The status that the program ends with.
-    fn status(&self) -> u8
-        ensures { result ≡ end_status self.now }
-    {
-        match self {
-            End::Run(exit) => exit.status(),
-            End::NotOpened(_) => 6,
-        }
-    }
-
-    /// Prints the lines of this end to standard error. Where that can't be written, the status alone tells.
-    fn tell(&self, rt: &HostRuntime) {
-        let told = match self {
-            End::Run(Exit::Done) => Ok(()),
-            End::Run(Exit::Usage) => eprintln!(rt; "{USAGE}"),
-            End::Run(Exit::Script(fault)) => eprintln!(rt; "{fault}"),
-            End::Run(Exit::ReadFault) => eprintln!(rt; "read fault"),
-            End::Run(Exit::WriteFault) => eprintln!(rt; "write fault"),
-            End::Run(Exit::NotAStore) => eprintln!(rt; "not a store"),
-            End::Run(Exit::DamagedCell { cell }) => eprintln!(rt; "damaged cell {cell}"),
-            End::Run(Exit::DiskFault) => eprintln!(rt; "disk fault"),
-            End::Run(Exit::Memory) => eprintln!(rt; "out of memory"),
-            End::Run(Exit::OverQuota { owner }) => eprintln!(rt; "owner {owner} over quota"),
-            End::NotOpened(refusal) => eprintln!(rt; "disk fault\n{refusal}"),
-        };
-        if told.is_err() {}
-    }
-}
-
-/// Prints a text to standard output.
-fn answer(rt: &HostRuntime, text: &str) -> End {
-    match println!(rt; "{text}") {
-        Ok(()) => End::Run(Exit::Done),
-        Err(_) => End::Run(Exit::WriteFault),
-    }
-}
-
-/// The words after the program's name.
-fn arguments(rt: &HostRuntime) -> Result<Vec<String>, Exit> {
-    let mut arguments = match env::args(rt) {
-        Ok(arguments) => arguments,
-        Err(error) => {
-            return Err(if error.kind() == ErrorKind::OutOfMemory {
-                Exit::Memory
-            } else {
-                Exit::Usage
-            });
-        }
-    };
-    let mut words = Vec::new(rt.alloc());
-    for word in arguments.skip(1) {
-        if words.push(word).is_err() {
-            return Err(Exit::Memory);
-        }
-    }
-    Ok(words)
-}
-
-/// Opens a directory in place of each standard stream that is closed, so that no file that is opened later
-/// is taken for it. Reads and writes of a directory fail.
-fn hold_closed_streams(rt: &HostRuntime) -> io::Result<()> {
-    for _ in 0..3 {
-        let held = fs::open(rt, "/")?;
-        if held.as_raw_fd() > 2 {
-            break;
-        }
-        held.into_raw_fd();
-    }
-    Ok(())
+/// Runs a command on the store of a file: its script comes from standard input, its replies go to standard output.
+fn run_command(rt: &HostRuntime, store: &str, words: &[&str]) -> End {
+    let mut source = Reading::new(rt.stdin());
+    let mut sink = Writing::new(io::writer(rt));
+    run_store(rt, store, words, &mut source, &mut sink)
 }
 
 /// Runs the program by its words.
-fn run<R: Threads + Wait + Sync>(rt: &HostRuntime, threads: &R) -> End {
+fn run(rt: &HostRuntime) -> End {
     let arguments = match arguments(rt) {
         Ok(arguments) => arguments,
         Err(exit) => return End::Run(exit),
@@ -172,14 +86,14 @@ fn run<R: Threads + Wait + Sync>(rt: &HostRuntime, threads: &R) -> End {
         ["--help"] => answer(rt, HELP),
         ["--version"] => answer(rt, VERSION),
         [store, rest @ ..] => match hold_closed_streams(rt) {
-            Ok(()) => run_store(rt, threads, store, rest),
+            Ok(()) => run_command(rt, store, rest),
             Err(error) => End::NotOpened(Refusal::System(error)),
         },
     }
 }
 
 fn main(rt: HostRuntime) -> ExitCode {
-    let end = run(&rt, &rt);
-    end.tell(&rt);
+    let end = run(&rt);
+    end.tell(&rt, USAGE);
     ExitCode::from(end.status())
 }

@@ -1,43 +1,15 @@
-//! Opening the file of a store: a regular file, which one run has at a time.
+// Opening the file of a store: a regular file, which one run has at a time, or any number of programs that only read it.
 ghost use Rattle.std.specs.{Prelude.◌↔◌, Prelude.IsOk, Prelude.IfErr, Prelude.map, Fs.file_type, Fs.IsFile};
 ghost use Rattle.command_words.specs.Words.{command_of};
-ghost use Rattle.psa_host.specs.Program.{EndsUnopened};
+ghost use Rattle.host_parts.specs.Program.{EndsUnopened};
 
-use crate::End;
+use crate::end::{End, Refusal};
 use command_words::{RuleList, read_words};
 use psa_command::Exit;
-use std::fs::{self, File, Metadata, OpenOptions, TryLockError};
-use std::io::{self, ErrorKind};
+use std::fs::{self, File, Metadata, OpenOptions};
+use std::io::ErrorKind;
 use std::os::unix::fs::{FileTypeExt, OpenOptionsExt};
-use thiserror::Error;
-
-/// Why the file of a store isn't opened. STORE is the word of the usage line: a path may have any bytes.
-#[derive(Debug, Drop, Error)]
-pub enum Refusal {
-    #[error("STORE is locked by another run")]
-    Locked,
-    #[error("STORE is a directory")]
-    Directory,
-    #[error("STORE is a pipe")]
-    Pipe,
-    #[error("STORE is a socket")]
-    Socket,
-    #[error("STORE is a device")]
-    Device,
-    #[error("STORE is a dangling link")]
-    DanglingLink,
-    #[error("STORE can't be opened: {0}")]
-    System(#[from] io::Error),
-}
-
-impl From<TryLockError> for Refusal {
-    fn from(error: TryLockError) -> Refusal {
-        match error {
-            TryLockError::WouldBlock => Refusal::Locked,
-            TryLockError::Error(error) => Refusal::System(error),
-        }
-    }
-}
+use std::rt::Files;
 
 /// Whether this is a regular file, whose bytes stay where they were written.
 fn require_regular(metadata: &Metadata) -> Result<(), Refusal>
@@ -58,7 +30,7 @@ fn require_regular(metadata: &Metadata) -> Result<(), Refusal>
 }
 
 /// What is at a path, if anything is. A link is followed, and one that leads nowhere is refused.
-fn found_at(rt: &HostRuntime, path: &str) -> Result<Option<Metadata>, Refusal> {
+fn found_at<R: Files>(rt: &R, path: &str) -> Result<Option<Metadata>, Refusal> {
     match fs::metadata(rt, path) {
         Ok(metadata) => Ok(Some(metadata)),
         Err(error) if error.kind() == ErrorKind::NotFound => {
@@ -78,7 +50,11 @@ fn lock(file: File) -> Result<File, Refusal> {
 }
 
 /// Opens the file that was found at a path. Opening what isn't regular could wait, or change it.
-fn open_found(rt: &HostRuntime, path: &str, found: &Metadata) -> Result<File, Refusal> {
+fn open_found<R: Files<File = File>>(
+    rt: &R,
+    path: &str,
+    found: &Metadata,
+) -> Result<File, Refusal> {
     require_regular(found)?;
     let file = OpenOptions::new().read(true).write(true).open(rt, path)?;
     // since then another one may have come there
@@ -87,7 +63,7 @@ fn open_found(rt: &HostRuntime, path: &str, found: &Metadata) -> Result<File, Re
 }
 
 /// Makes the file where nothing is, for its owner alone. Another run may have been faster.
-fn make(rt: &HostRuntime, path: &str) -> Result<File, Refusal> {
+fn make<R: Files<File = File>>(rt: &R, path: &str) -> Result<File, Refusal> {
     let mut options = OpenOptions::new();
     options.read(true).write(true).create_new(true).mode(0o600);
     match options.open(rt, path) {
@@ -100,8 +76,8 @@ fn make(rt: &HostRuntime, path: &str) -> Result<File, Refusal> {
 }
 
 /// The file of a store. Where nothing is at its path it is made, but only for words that are a command.
-pub fn store_file<L: RuleList>(
-    rt: &HostRuntime,
+pub fn store_file<L: RuleList, R: Files<File = File> + AllocGlobal>(
+    rt: &R,
     path: &str,
     words: &[&str],
     rules: &L,
@@ -121,4 +97,17 @@ pub fn store_file<L: RuleList>(
         Ok(file) => Ok(file),
         Err(refusal) => Err(End::NotOpened(refusal)),
     }
+}
+
+/// Opens the file of a store to read it, and keeps every run off it until it is closed. It doesn't wait for a run that has it.
+pub fn open_to_read<R: Files<File = File>>(rt: &R, path: &str) -> Result<File, Refusal> {
+    // opening what isn't regular could wait
+    if let Some(found) = found_at(rt, path)? {
+        require_regular(&found)?;
+    }
+    let file = fs::open(rt, path)?;
+    // since then another one may have come there
+    require_regular(&file.metadata()?)?;
+    file.try_lock_shared()?;
+    Ok(file)
 }

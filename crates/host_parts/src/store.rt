@@ -1,9 +1,10 @@
-//! A command over a store's file, with the program's rules and its secure element. Boxes are made where they are handed down.
+// A command over a store's file, with the rules and the secure element of the programs. Boxes are made where they are handed
+// down.
 ghost use Rattle.std.specs.Prelude.{◌≡◌, ℕ, ◌∷◌, [], Some};
 ghost use Rattle.policy_rules.specs.declared.narrowing.Label.TheVariants as label;
 ghost use Rattle.driver_dispatch.specs.{Calls.Lacks, Held.no_keys};
 
-use crate::End;
+use crate::end::End;
 use crate::opening::store_file;
 use admission::{Admission, Rule, Rules};
 use command_words::RuleBook;
@@ -13,34 +14,46 @@ use policy_rules::{Label, narrow};
 use psa_command::{Ended, Exit, run_command};
 use psa_status::Memory;
 use soft_driver::SoftDriver;
+use outside_io::{Sink, Source};
 use std::alloc::{AllocError, Global};
-use std::io;
+use std::fs::File;
+use std::rt::Files;
 use std::sync::Wait;
 use std::thread::Threads;
-use stream_adapters::{FileDisk, Reading, Writing};
+use stream_adapters::FileDisk;
 
 /// The location of the secure element.
 const SECURE_ELEMENT: u32 = 1;
 
 /// Runs a command over the file at a path, with the four rules and a secure element in memory that holds no key and never fails.
-pub fn run_store<R: Threads + Wait + Sync>(
-    rt: &HostRuntime,
-    threads: &R,
+pub fn run_store<
+    S: Source,
+    K: Sink,
+    R: Files<File = File> + AllocGlobal + Threads + Wait + Sync,
+>(
+    rt: &R,
     path: &str,
     words: &[&str],
+    source: &mut S,
+    sink: &mut K,
 ) -> End {
-    match with_rules(rt, threads, path, words) {
+    match with_rules(rt, path, words, source, sink) {
         Ok(end) => end,
         Err(_) => End::Run(Exit::Memory),
     }
 }
 
 // Makes the rules.
-fn with_rules<R: Threads + Wait + Sync>(
-    rt: &HostRuntime,
-    threads: &R,
+fn with_rules<
+    S: Source,
+    K: Sink,
+    R: Files<File = File> + AllocGlobal + Threads + Wait + Sync,
+>(
+    rt: &R,
     path: &str,
     words: &[&str],
+    source: &mut S,
+    sink: &mut K,
 ) -> Result<End, AllocError> {
     let alloc = rt.alloc();
     let mut no_export = Vec::new(alloc);
@@ -65,26 +78,33 @@ fn with_rules<R: Threads + Wait + Sync>(
     ))?;
     with_element(
         rt,
-        threads,
         path,
         Rules::pick(no_export, &[Label::NoExport]),
         Rules::pick(no_copy, &[Label::NoCopy]),
         Rules::pick(no_ecb, &[Label::NoEcb]),
         Rules::pick(aes256, &[Label::Aes256]),
         words,
+        source,
+        sink,
     )
 }
 
 // Makes the secure element, and a book of the rules.
-fn with_element<C: Admission, R: Threads + Wait + Sync>(
-    rt: &HostRuntime,
-    threads: &R,
+fn with_element<
+    C: Admission,
+    S: Source,
+    K: Sink,
+    R: Files<File = File> + AllocGlobal + Threads + Wait + Sync,
+>(
+    rt: &R,
     path: &str,
     no_export: C,
     no_copy: C,
     no_ecb: C,
     aes256: C,
     words: &[&str],
+    source: &mut S,
+    sink: &mut K,
 ) -> Result<End, AllocError>
     requires no_export { C.labels no_export ≡ label.NoExport ∷ [] }
     requires no_copy { C.labels no_copy ≡ label.NoCopy ∷ [] }
@@ -101,7 +121,7 @@ fn with_element<C: Admission, R: Threads + Wait + Sync>(
         return Err(AllocError);
     };
     let devices = without_keys(Drivers::new(drivers));
-    Ok(run_over(rt, threads, path, devices, book, words))
+    Ok(run_over(rt, path, devices, book, words, source, sink))
 }
 
 // A book of the rules, in this order.
@@ -134,13 +154,20 @@ fn without_keys<A: Devices>(devices: A) -> A
 }
 
 // Runs a command over the file at a path, with these devices and rules. The file is locked until its output is written.
-fn run_over<A: Devices, C: Admission, R: Threads + Wait + Sync>(
-    rt: &HostRuntime,
-    threads: &R,
+fn run_over<
+    A: Devices,
+    C: Admission,
+    S: Source,
+    K: Sink,
+    R: Files<File = File> + AllocGlobal + Threads + Wait + Sync,
+>(
+    rt: &R,
     path: &str,
     devices: A,
     book: RuleBook<C>,
     words: &[&str],
+    source: &mut S,
+    sink: &mut K,
 ) -> End
     requires { (handle : ℕ) → Lacks (A.keys devices) handle }
 {
@@ -148,18 +175,16 @@ fn run_over<A: Devices, C: Admission, R: Threads + Wait + Sync>(
         Ok(file) => file,
         Err(end) => return end,
     };
-    let mut source = Reading::new(rt.stdin());
-    let mut sink = Writing::new(io::writer(rt));
     let Ended {
         exit,
         disk: _,
         devices: _,
     } = run_command(
-        threads,
+        rt,
         rt.alloc(),
         words,
-        &mut source,
-        &mut sink,
+        source,
+        sink,
         FileDisk::new(file),
         devices,
         book,
