@@ -3,7 +3,7 @@ use Rattle.std.specs.Prelude.{ℕ, ◌≡◌, Option, None, IsSome, ⊤}
 use Rattle.command_words.specs.declared.command.Command.{Command}
 use Rattle.psa_command.specs.Ends.{exit_status}
 use Rattle.psa_command.specs.declared.exit.Exit.TheVariants as exit
-use Rattle.host_parts.specs.{declared.end.End.End, declared.end.End.TheVariants.Run, declared.end.End.TheVariants.NotOpened}
+use Rattle.host_parts.specs.{declared.ending.End.End, declared.ending.End.TheVariants.Run, declared.ending.End.TheVariants.NotOpened}
 
 -- the status that the program ends with: as its run did, or 6 where the store's file isn't opened
 abbrev pub end_status : End → ℕ

@@ -10,12 +10,13 @@
 //!   alone under its label.
 #![tactic(auto)]
 
-mod arguments;
-mod end;
+mod ending;
+
 mod opening;
 mod store;
+mod words;
 
-pub use arguments::{arguments, hold_closed_streams};
-pub use end::{End, Refusal, answer};
+pub use words::{arguments, hold_closed_streams};
+pub use ending::{End, Refusal, answer};
 pub use opening::{open_to_read, store_file};
 pub use store::run_store;

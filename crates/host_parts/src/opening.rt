@@ -3,7 +3,7 @@ ghost use Rattle.std.specs.{Prelude.◌↔◌, Prelude.IsOk, Prelude.IfErr, Prel
 ghost use Rattle.command_words.specs.Words.{command_of};
 ghost use Rattle.host_parts.specs.Program.{EndsUnopened};
 
-use crate::end::{End, Refusal};
+use crate::ending::{End, Refusal};
 use command_words::{RuleList, read_words};
 use psa_command::Exit;
 use std::fs::{self, File, Metadata, OpenOptions};

@@ -4,7 +4,7 @@ ghost use Rattle.std.specs.Prelude.{◌≡◌, ℕ, ◌∷◌, [], Some};
 ghost use Rattle.policy_rules.specs.declared.narrowing.Label.TheVariants as label;
 ghost use Rattle.driver_dispatch.specs.{Calls.Lacks, Held.no_keys};
 
-use crate::end::End;
+use crate::ending::End;
 use crate::opening::store_file;
 use admission::{Admission, Rule, Rules};
 use command_words::RuleBook;
