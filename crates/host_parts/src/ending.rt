@@ -57,7 +57,7 @@ impl End {
     /// written, the status alone tells.
     pub fn tell(&self, rt: &impl Eprint, usage: &str) {
         let told = match self {
-            End::Run(Exit::Done) => Ok(()),
+            End::Run(Exit::Done { .. }) => Ok(()),
             End::Run(Exit::Usage) => eprintln!(rt; "{usage}"),
             End::Run(Exit::Script(fault)) => eprintln!(rt; "{fault}"),
             End::Run(Exit::ReadFault) => eprintln!(rt; "read fault"),
@@ -76,7 +76,7 @@ impl End {
 /// Prints a text to standard output.
 pub fn answer(rt: &impl Print, text: &str) -> End {
     match println!(rt; "{text}") {
-        Ok(()) => End::Run(Exit::Done),
+        Ok(()) => End::Run(Exit::Done { refusals: 0 }),
         Err(_) => End::Run(Exit::WriteFault),
     }
 }

@@ -11,12 +11,11 @@
 #![tactic(auto)]
 
 mod ending;
-
 mod opening;
 mod store;
 mod words;
 
-pub use words::{arguments, hold_closed_streams};
 pub use ending::{End, Refusal, answer};
 pub use opening::{open_to_read, store_file};
 pub use store::run_store;
+pub use words::{arguments, hold_closed_streams};

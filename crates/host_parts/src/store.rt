@@ -10,11 +10,11 @@ use admission::{Admission, Rule, Rules};
 use command_words::RuleBook;
 use driver_dispatch::{Devices, Driver, Drivers};
 use key_attributes::Attributes;
+use outside_io::{Sink, Source};
 use policy_rules::{Label, narrow};
 use psa_command::{Ended, Exit, run_command};
 use psa_status::Memory;
 use soft_driver::SoftDriver;
-use outside_io::{Sink, Source};
 use std::alloc::{AllocError, Global};
 use std::fs::File;
 use std::rt::Files;
@@ -26,30 +26,24 @@ use stream_adapters::FileDisk;
 const SECURE_ELEMENT: u32 = 1;
 
 /// Runs a command over the file at a path, with the four rules and a secure element in memory that holds no key and never fails.
-pub fn run_store<
-    S: Source,
-    K: Sink,
-    R: Files<File = File> + AllocGlobal + Threads + Wait + Sync,
->(
-    rt: &R,
+pub fn run_store<S: Source, K: Sink, F: Files<File = File> + AllocGlobal, R: Threads + Wait + Sync>(
+    rt: &F,
+    threads: &R,
     path: &str,
     words: &[&str],
     source: &mut S,
     sink: &mut K,
 ) -> End {
-    match with_rules(rt, path, words, source, sink) {
+    match with_rules(rt, threads, path, words, source, sink) {
         Ok(end) => end,
         Err(_) => End::Run(Exit::Memory),
     }
 }
 
 // Makes the rules.
-fn with_rules<
-    S: Source,
-    K: Sink,
-    R: Files<File = File> + AllocGlobal + Threads + Wait + Sync,
->(
-    rt: &R,
+fn with_rules<S: Source, K: Sink, F: Files<File = File> + AllocGlobal, R: Threads + Wait + Sync>(
+    rt: &F,
+    threads: &R,
     path: &str,
     words: &[&str],
     source: &mut S,
@@ -78,6 +72,7 @@ fn with_rules<
     ))?;
     with_element(
         rt,
+        threads,
         path,
         Rules::pick(no_export, &[Label::NoExport]),
         Rules::pick(no_copy, &[Label::NoCopy]),
@@ -94,9 +89,11 @@ fn with_element<
     C: Admission,
     S: Source,
     K: Sink,
-    R: Files<File = File> + AllocGlobal + Threads + Wait + Sync,
+    F: Files<File = File> + AllocGlobal,
+    R: Threads + Wait + Sync,
 >(
-    rt: &R,
+    rt: &F,
+    threads: &R,
     path: &str,
     no_export: C,
     no_copy: C,
@@ -121,7 +118,7 @@ fn with_element<
         return Err(AllocError);
     };
     let devices = without_keys(Drivers::new(drivers));
-    Ok(run_over(rt, path, devices, book, words, source, sink))
+    Ok(run_over(rt, threads, path, devices, book, words, source, sink))
 }
 
 // A book of the rules, in this order.
@@ -159,9 +156,11 @@ fn run_over<
     C: Admission,
     S: Source,
     K: Sink,
-    R: Files<File = File> + AllocGlobal + Threads + Wait + Sync,
+    F: Files<File = File> + AllocGlobal,
+    R: Threads + Wait + Sync,
 >(
-    rt: &R,
+    rt: &F,
+    threads: &R,
     path: &str,
     devices: A,
     book: RuleBook<C>,
@@ -180,7 +179,7 @@ fn run_over<
         disk: _,
         devices: _,
     } = run_command(
-        rt,
+        threads,
         rt.alloc(),
         words,
         source,

@@ -23,11 +23,7 @@ pub(crate) fn location_of(lifetime: Lifetime) -> u32
 
 /// Appends a location's name, or its number in hex where it has none.
 #[tactic(auto, unfolding(crate::specs::Places::location_text))]
-pub(crate) fn push_location(
-    alloc: Global,
-    out: &mut Vec<u8>,
-    location: u32,
-) -> Result<(), Memory>
+pub(crate) fn push_location(alloc: Global, out: &mut Vec<u8>, location: u32) -> Result<(), Memory>
     ensures { OnOk result (out.new.items ≡ out.old.items ++ location_text location) }
 {
     match location {

@@ -17,10 +17,14 @@ RankStandsBetween =
 abbrev pub count_line : List ℕ → ℕ → List ℕ
 count_line word number = word ++ decimal number ++ codes "\n"
 
+-- how many replies aren't SUCCESS
+abbrev pub refusals_among : List ReplyLine → ℕ
+refusals_among replies = count_by (λ line. not (is_success line)) replies
+
 -- the four lines: how many calls there were, how many of them succeeded, how many didn't, and the digest of the replies
 unfoldable pub summary_of : List ReplyLine → List ℕ
 summary_of replies =
     count_line (codes "calls ") (length replies)
     ++ count_line (codes "successes ") (count_by is_success replies)
-    ++ count_line (codes "refusals ") (count_by (λ line. not (is_success line)) replies)
+    ++ count_line (codes "refusals ") (refusals_among replies)
     ++ codes "sha256 " ++ encode_lower (sha256 (flat_map unranked_text replies)) ++ codes "\n"

@@ -1,8 +1,8 @@
 // The summary of the replies.
 ghost use Rattle.std.specs.{Prelude.◌≡◌, Prelude.◌≤◌, Prelude.◌-◌, Prelude.◌+◌, Prelude.◌++◌, Prelude.ℕ, Prelude.List, Prelude.OnOk, Prelude.IfOk, Prelude.flat_map, Prelude.length, Prelude.sum_by, Fmt.decimal};
 ghost use Rattle.sha2.specs.Sha256.{sha256};
-ghost use Rattle.script_lang.specs.{Prelude.AreAllKept, Prelude.ReplyLine, declared.replies.ReplyForm.TheVariants.Unranked};
-ghost use Rattle.line_generator.specs.Summary.{count_line, summary_of};
+ghost use Rattle.script_lang.specs.{Prelude.AreAllKept, Prelude.ReplyLine, declared.replies.ReplyForm.ReplyForm, declared.replies.ReplyForm.TheVariants.Unranked};
+ghost use Rattle.line_generator.specs.Summary.{count_line, refusals_among, summary_of};
 
 use itoa::Buffer;
 use psa_status::Memory;
@@ -26,12 +26,11 @@ fn push_count(out: &mut Vec<u8>, word: &[u8], number: u64) -> Result<(), AllocEr
     Ok(())
 }
 
-/// What the replies of several sessions come to.
+/// How many replies there are, and how many of them succeeded.
 #[derive(Drop)]
-struct Total {
+struct Counts {
     calls: u64,
     successes: u64,
-    digest: [u8; 32],
 }
 
 fn wide(number: u32) -> u64
@@ -41,26 +40,38 @@ fn wide(number: u32) -> u64
     u64::from(number)
 }
 
-// How many replies there are, how many of them succeeded, and the digest of their text.
-fn total_of(replies: &[Replies]) -> Total
+fn counts_of(replies: &[Replies]) -> Counts
     requires { length replies.now ≤ 16 }
     ensures calls { result.calls ≡ sum_by (λ k. k.count) replies.now }
     ensures successes { result.successes ≡ sum_by (λ k. k.successes) replies.now }
-    ensures digest { result.digest ≡ sha256 (flat_map (λ k. k.text.items) replies.now) }
 {
     let mut calls = 0u64;
     let mut successes = 0u64;
-    let mut hasher = Sha256::new();
     for own in replies {
         calls += wide(own.count);
         successes += wide(own.successes);
+    }
+    Counts { calls, successes }
+}
+
+/// How many of the replies of at most sixteen sessions aren't SUCCESS.
+pub fn refusals_of(replies: &[Replies]) -> u64
+    requires { length replies.now ≤ 16 }
+    ensures { (form : ReplyForm) (lines : List ReplyLine) → AreAllKept form replies.now lines → result ≡ refusals_among lines }
+{
+    let Counts { calls, successes } = counts_of(replies);
+    calls.saturating_sub(successes)
+}
+
+// The digest of the replies' text.
+fn digest_of(replies: &[Replies]) -> [u8; 32]
+    ensures { result ≡ sha256 (flat_map (λ k. k.text.items) replies.now) }
+{
+    let mut hasher = Sha256::new();
+    for own in replies {
         hasher.update(own.text.as_slice());
     }
-    Total {
-        calls,
-        successes,
-        digest: hasher.finalize(),
-    }
+    hasher.finalize()
 }
 
 #[tactic(auto, unfolding(crate::specs::Summary::summary_of))]
@@ -68,15 +79,12 @@ fn push_summary(alloc: Global, out: &mut Vec<u8>, replies: &[Replies]) -> Result
     requires { length replies.now ≤ 16 }
     ensures { (lines : List ReplyLine) → AreAllKept Unranked replies.now lines → OnOk result (out.new.items ≡ out.old.items ++ summary_of lines) }
 {
-    let Total {
-        calls,
-        successes,
-        digest,
-    } = total_of(replies);
+    let Counts { calls, successes } = counts_of(replies);
+    let digest = digest_of(replies);
     let digest = hex::encode(alloc, &digest)?;
     push_count(out, b"calls ", calls)?;
     push_count(out, b"successes ", successes)?;
-    push_count(out, b"refusals ", calls.saturating_sub(successes))?;
+    push_count(out, b"refusals ", refusals_of(replies))?;
     out.extend_from_slice(b"sha256 ")?;
     out.extend_from_slice(digest.as_str().as_bytes())?;
     out.push(b'\n')?;

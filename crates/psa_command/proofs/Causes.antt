@@ -2,6 +2,8 @@
 use Rattle.std.proofs.Common.{Err, IfSome, IsOk, IsOkAnd, IsSome, IsSomeAnd, false, List, None, Ok, Option, Some, [], ap, arith, inl, inr, is_some, length, refl, subst, sym, true, ℕ, ◌∙◌, ◌∷◌, ◌≡◌, ◌⊎◌}
 use Rattle.psa_command.proofs.Common.{IsSaidBy, IsOverQuota, KeepsQuotas, StatesOwners, OverQuota, Said, Command, DamagedCell, DiskFault, Done, EndsBy, Exit, HasStore, IsDonePlainly, IsOfImage, IsReadable, IsRun, IsUnrun, IsWritten, Memory, NotAStore, ReadFault, ReplyLine, Script, ScriptFault, Usage, WriteFault, exit_of, exit_unanswered, leb_tells, script_of, text_by, options_of}
 use Rattle.script_lang.specs.Prelude.{AreOwners}
+use Rattle.line_generator.specs.Summary.{refusals_among}
+use Rattle.psa_command.specs.Ends.{Counts}
 use Rattle.owner_space.specs.{Naming.names_by, declared.names.Names.TheVariants.Unowned}
 use Rattle.store_core.specs.{declared.store.Opened.Opened, Prelude.IsFirstOver}
 use Rattle.store_model.specs.Prelude.{is_per_range}
@@ -182,7 +184,7 @@ module _ {D A C : Type 0} (disks : Disk.Ghosts D) (elements : Devices.Ghosts A) 
   pub complete : (exit : Exit) (old new : Option (List ℕ)) (read write : Type 0) → IsKnown exit old new read write → IsReadable command left → (read → ⊥) → (write → ⊥) →
       (Rose (disks.faults disk) (disks.faults disk_after) → ⊥) → HasStore (disks.contents disk) → KeepsQuotas command left (disks.contents disk) →
       IsDonePlainly disks elements admits given left disk devices command disk_after devices_after exit old new ⊎ (exit ≡ Memory)
-  complete Done old new read write known reads r w d has quotas = inl (refl, λ still. let k = known.ends in (k.0, k.1, k.1.answered.run.plain (tells_store (disks.contents disk) has) d still, k.2))
+  complete (Done refusals) old new read write known reads r w d has quotas = inl (tt, λ still. let k = known.ends in (k.0, k.1, k.1.answered.run.plain (tells_store (disks.contents disk) has) d still, k.2))
   complete Usage old new read write known reads r w d has quotas = absurd known.ends
   complete (Script f) old new read write known reads r w d has quotas = absurd (no_fault command left f (known.script f refl) reads)
   complete ReadFault old new read write known reads r w d has quotas = absurd (r (known.read refl))
@@ -198,7 +200,7 @@ module _ {D A C : Type 0} (disks : Disk.Ghosts D) (elements : Devices.Ghosts A) 
   refusal : (exit wanted : Exit) (P : List ℕ → Type 0) → ((image : List ℕ) → HasStore (Some image) → P image → ⊥) → (old new : Option (List ℕ)) (read write : Type 0) → IsKnown exit old new read write → IsReadable command left → (read → ⊥) →
       (Rose (disks.faults disk) (disks.faults disk_after) → ⊥) → IsSomeAnd (disks.contents disk) P →
       (exit ≡ NotAStore → NotAStore ≡ wanted) → ((cell : ℕ) → exit ≡ DamagedCell cell → DamagedCell cell ≡ wanted) → (exit ≡ wanted) ⊎ (exit ≡ Memory)
-  refusal Done wanted P refuses old new read write known reads r d tells as_none as_damaged = absurd (store_of known.ends.0 known.ends.1 P refuses tells)
+  refusal (Done refusals) wanted P refuses old new read write known reads r d tells as_none as_damaged = absurd (store_of known.ends.0 known.ends.1 P refuses tells)
   refusal Usage wanted P refuses old new read write known reads r d tells as_none as_damaged = absurd known.ends
   refusal (Script f) wanted P refuses old new read write known reads r d tells as_none as_damaged = absurd (no_fault command left f (known.script f refl) reads)
   refusal ReadFault wanted P refuses old new read write known reads r d tells as_none as_damaged = absurd (r (known.read refl))
@@ -245,11 +247,11 @@ module _ {D A C : Type 0} (disks : Disk.Ghosts D) (elements : Devices.Ghosts A) 
   -- HOW A COMMAND ENDS
 
   -- with replies
-  pub answered_ends : (exit : Exit) (old new : Option (List ℕ)) (replies : List ReplyLine) → Answers replies → IsWritten (text_by command replies) old new exit → EndsSo exit old new
-  answered_ends Done old new replies r w = (replies, r, w)
-  answered_ends WriteFault old new replies r w = (replies, r, w)
-  answered_ends Memory old new replies r w = inr (inr (replies, r))
-  answered_ends exit old new replies r w = absurd w
+  pub answered_ends : (exit : Exit) (old new : Option (List ℕ)) (replies : List ReplyLine) → Answers replies → IsWritten (text_by command replies) old new exit → Counts (refusals_among replies) exit → EndsSo exit old new
+  answered_ends (Done refusals) old new replies r w counts = (replies, r, w, counts)
+  answered_ends WriteFault old new replies r w counts = (replies, r, w)
+  answered_ends Memory old new replies r w counts = inr (inr (replies, r))
+  answered_ends exit old new replies r w counts = absurd w
 
   -- without them
   pub unanswered_ends : (why : Unanswered) (old new : Option (List ℕ)) (said : Said) → IsSaidBy command left said →
@@ -300,7 +302,7 @@ module _ {D A C : Type 0} (disks : Disk.Ghosts D) (elements : Devices.Ghosts A) 
   pub refused : (left : Option (List ℕ)) (exit : Exit) (old new : Option (List ℕ)) (read write : Type 0) → IsKnownOf left exit old new read write → (read → ⊥) →
       IfSome left (λ text. (f : ScriptFault) → script_of text ≡ Err f → (exit ≡ Script f) ⊎ (exit ≡ Memory))
   refused None exit old new read write known r = tt
-  refused (Some text) Done old new read write known r = λ f e. absurd (clash text known.ends.1.said f known.ends.1.is_said e)
+  refused (Some text) (Done refusals) old new read write known r = λ f e. absurd (clash text known.ends.1.said f known.ends.1.is_said e)
   refused (Some text) WriteFault old new read write known r = λ f e. absurd (clash text known.ends.1.said f known.ends.1.is_said e)
   refused (Some text) Usage old new read write known r = absurd known.ends
   refused (Some text) (Script g) old new read write known r = λ f e. inl (one_fault text g f (known.script g refl) e)
@@ -340,7 +342,7 @@ module _ {D A C : Type 0} (disks : Disk.Ghosts D) (elements : Devices.Ghosts A) 
   pub quota : (left : Option (List ℕ)) (exit : Exit) (old new : Option (List ℕ)) (read write : Type 0) → IsKnownOf left exit old new read write → IsSomeAnd left StatesOwners → (read → ⊥) →
       (Rose (disks.faults disk) (disks.faults disk_after) → ⊥) → (owner : ℕ) → IsSomeAnd (disks.contents disk) (IsOverQuota owner) → (exit ≡ OverQuota owner) ⊎ (exit ≡ Memory)
   quota None exit old new read write known states r d owner tells = absurd states
-  quota (Some text) Done old new read write known states r d owner tells = absurd (not_run text owner states tells known.ends.0 known.ends.1)
+  quota (Some text) (Done refusals) old new read write known states r d owner tells = absurd (not_run text owner states tells known.ends.0 known.ends.1)
   quota (Some text) WriteFault old new read write known states r d owner tells = absurd (not_run text owner states tells known.ends.0 known.ends.1)
   quota (Some text) Usage old new read write known states r d owner tells = absurd known.ends
   quota (Some text) (Script f) old new read write known states r d owner tells = absurd (subst (λ x. IsOkAnd x (λ (s : Said). IsSome s.owners)) (known.script f refl) states)

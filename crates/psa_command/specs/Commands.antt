@@ -7,10 +7,10 @@ use Rattle.key_cells.specs.{declared.state.CellState.CellState, Prelude.IsFoundI
 use Rattle.store_core.specs.Prelude.{IsFirstOver}
 use Rattle.owner_space.specs.Naming.{names_by}
 use Rattle.script_lang.specs.{Prelude.ReplyLine, Prelude.Said, Prelude.reply_text, Prelude.script_of}
-use Rattle.line_generator.specs.{Generator.generator_lines, Summary.summary_of}
+use Rattle.line_generator.specs.{Generator.generator_lines, Summary.refusals_among, Summary.summary_of}
 use Rattle.command_words.specs.{declared.command.Command.Command, declared.command.RunOptions.RunOptions, declared.command.Command.TheVariants.Run, declared.command.Command.TheVariants.Generate}
 use Rattle.session_host.specs.{declared.lines.Unanswered.Unanswered, Bounds.ArePlain, Runs.AreAnswered, Runs.IsUnanswered}
-use Rattle.psa_command.specs.{declared.exit.Exit.Exit, declared.exit.Exit.TheVariants.Done, declared.exit.Exit.TheVariants.Usage, declared.exit.Exit.TheVariants.Script, declared.exit.Exit.TheVariants.ReadFault, declared.exit.Exit.TheVariants.WriteFault, declared.exit.Exit.TheVariants.Memory, Ends.TakesPart, Ends.exit_unanswered}
+use Rattle.psa_command.specs.{declared.exit.Exit.Exit, declared.exit.Exit.TheVariants.Done, declared.exit.Exit.TheVariants.Usage, declared.exit.Exit.TheVariants.Script, declared.exit.Exit.TheVariants.ReadFault, declared.exit.Exit.TheVariants.WriteFault, declared.exit.Exit.TheVariants.Memory, Ends.IsDone, Ends.TakesPart, Ends.exit_unanswered}
 use Rattle.disk_face.specs.declared.Disk as Disk
 use Rattle.driver_dispatch.specs.declared.devices.Devices as Devices
 use Rattle.admission.specs.declared.rules.Admission as Admission
@@ -49,11 +49,11 @@ module _ {D A C : Type 0} (disks : Disk.Ghosts D) (elements : Devices.Ghosts A) 
   abbrev pub IsGivenBack : Type 0
   IsGivenBack = (disk_after ≡ disk) × (devices_after ≡ devices)
 
-  -- How a command ended, and what of its output was taken. Done: all that is written of the replies; a fault of the sink: a part
-  -- of it. Before the store was opened, disk and devices come back as they were. Memory may run out before that, later, or as
+  -- How a command ended, and what of its output was taken. Done: all that is written of the replies, and how many of them aren't
+  -- SUCCESS; a fault of the sink: a part of what is written. Before the store was opened, disk and devices come back as they were. Memory may run out before that, later, or as
   -- the generator's summary is made. Any other end is that of a store that wasn't opened.
   abbrev pub EndsBy : Exit → (old new : Option (List ℕ)) → Type 0
-  EndsBy Done old new = (replies : List ReplyLine) × IsRun replies × Appends old new (text_by command replies)
+  EndsBy (Done refusals) old new = (replies : List ReplyLine) × IsRun replies × Appends old new (text_by command replies) × (refusals ≡ refusals_among replies)
   EndsBy WriteFault old new = (replies : List ReplyLine) × IsRun replies × TakesPart (text_by command replies) old new
   EndsBy Memory old new = IsGivenBack ⊎ IsUnrun Memory ⊎ ((replies : List ReplyLine) × IsRun replies)
   EndsBy (Script fault) old new = IsGivenBack
@@ -63,7 +63,7 @@ module _ {D A C : Type 0} (disks : Disk.Ghosts D) (elements : Devices.Ghosts A) 
 
   -- It was done. Where the devices' count of faults didn't rise, no call met a failure.
   abbrev pub IsDonePlainly : Exit → (old new : Option (List ℕ)) → Type 0
-  IsDonePlainly exit old new = (exit ≡ Done)
+  IsDonePlainly exit old new = IsDone exit
       × ((Rose (elements.faults devices) (elements.faults devices_after) → ⊥) → (replies : List ReplyLine) × (run : IsRun replies) × ArePlain run.answered.run.history × Appends old new (text_by command replies))
 
 -- a command's lines can be read: those of a script, where the source tells it

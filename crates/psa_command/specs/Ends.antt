@@ -1,5 +1,5 @@
 -- How a run of a command may end.
-use Rattle.std.specs.{Prelude.ℕ, Prelude.List, Prelude.take, declared.option.Option.Option, Io.KnownBytes.Appends}
+use Rattle.std.specs.{Prelude.◌≡◌, Prelude.ℕ, Prelude.List, Prelude.take, declared.option.Option.Option, Io.KnownBytes.Appends}
 use Rattle.key_cells.specs.declared.reading.OpenFault.{OpenFault}
 use Rattle.key_cells.specs.declared.reading.OpenFault.TheVariants as opening
 use Rattle.script_lang.specs.declared.faults.ScriptFault.TheVariants as faults
@@ -39,7 +39,7 @@ IsReadToEnd _ = Unit {0}
 
 -- ends before which nothing was written
 abbrev pub IsQuiet : Exit → Type 0
-IsQuiet Done = ⊥
+IsQuiet (Done refusals) = ⊥
 IsQuiet WriteFault = ⊥
 IsQuiet _ = Unit {0}
 
@@ -58,7 +58,7 @@ exit_unanswered unanswered.Memory = Memory
 
 -- the status that the program ends with
 abbrev pub exit_status : Exit → ℕ
-exit_status Done = 0
+exit_status (Done refusals) = 0
 exit_status Usage = 1
 exit_status (Script fault) = 2
 exit_status ReadFault = 3
@@ -75,7 +75,16 @@ TakesPart out old new = (n : ℕ) × Appends old new (take n out)
 
 -- how a text was written, of which memory may have run out before
 abbrev pub IsWritten : List ℕ → (old new : Option (List ℕ)) → Exit → Type 0
-IsWritten text old new Done = Appends old new text
+IsWritten text old new (Done refusals) = Appends old new text
 IsWritten text old new WriteFault = TakesPart text old new
 IsWritten text old new Memory = Unit {0}
 IsWritten text old new _ = ⊥
+
+-- where all was written, so many replies aren't SUCCESS
+abbrev pub Counts : ℕ → Exit → Type 0
+Counts count (Done refusals) = refusals ≡ count
+Counts count _ = Unit {0}
+
+abbrev pub IsDone : Exit → Type 0
+IsDone (Done refusals) = Unit {0}
+IsDone _ = ⊥

@@ -9,7 +9,8 @@ use session_host::Unanswered;
 /// How a run ended.
 #[derive(Clone, Copy, Debug, PartialEq, Eq, Drop)]
 pub enum Exit {
-    Done,
+    /// All replies were written, of which so many aren't SUCCESS.
+    Done { refusals: u64 },
     Usage,
     Script(ScriptFault),
     ReadFault,
@@ -27,7 +28,7 @@ impl Exit {
         ensures { result ≡ exit_status self.now }
     {
         match self {
-            Exit::Done => 0,
+            Exit::Done { .. } => 0,
             Exit::Usage => 1,
             Exit::Script(_) => 2,
             Exit::ReadFault => 3,

@@ -8,6 +8,8 @@ use host_parts::{End, Refusal, answer, arguments, hold_closed_streams, run_store
 use psa_command::Exit;
 use std::io;
 use std::process::ExitCode;
+use std::sync::Wait;
+use std::thread::Threads;
 use stream_adapters::{Reading, Writing};
 
 const USAGE: &str =
@@ -63,14 +65,19 @@ psa_host 0.1.0
 Proved with rattle-kit-13f logic dac8208d650f15bf";
 
 /// Runs a command on the store of a file: its script comes from standard input, its replies go to standard output.
-fn run_command(rt: &HostRuntime, store: &str, words: &[&str]) -> End {
+fn run_command<R: Threads + Wait + Sync>(
+    rt: &HostRuntime,
+    threads: &R,
+    store: &str,
+    words: &[&str],
+) -> End {
     let mut source = Reading::new(rt.stdin());
     let mut sink = Writing::new(io::writer(rt));
-    run_store(rt, store, words, &mut source, &mut sink)
+    run_store(rt, threads, store, words, &mut source, &mut sink)
 }
 
 /// Runs the program by its words.
-fn run(rt: &HostRuntime) -> End {
+fn run<R: Threads + Wait + Sync>(rt: &HostRuntime, threads: &R) -> End {
     let arguments = match arguments(rt) {
         Ok(arguments) => arguments,
         Err(exit) => return End::Run(exit),
@@ -86,14 +93,14 @@ fn run(rt: &HostRuntime) -> End {
         ["--help"] => answer(rt, HELP),
         ["--version"] => answer(rt, VERSION),
         [store, rest @ ..] => match hold_closed_streams(rt) {
-            Ok(()) => run_command(rt, store, rest),
+            Ok(()) => run_command(rt, threads, store, rest),
             Err(error) => End::NotOpened(Refusal::System(error)),
         },
     }
 }
 
 fn main(rt: HostRuntime) -> ExitCode {
-    let end = run(&rt);
+    let end = run(&rt, &rt);
     end.tell(&rt, USAGE);
     ExitCode::from(end.status())
 }

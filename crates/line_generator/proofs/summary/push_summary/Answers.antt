@@ -1,30 +1,19 @@
 use Rattle.line_generator.proofs.Common.{ReplyLine, count_line, encode_lower, is_success, sha256, sum_by-cons, summary_of, Bool, List, [], ap, append_assoc, arith, codes, cond, count_by, false, length, not, refl, true, ℕ, ◌++◌, ◌+◌, ◌∙◌, ◌∷◌, ◌≡◌}
 use Rattle.line_generator.proofs.Pieces.{onto}
+use Rattle.script_lang.specs.declared.replies.ReplyForm.TheVariants.{Unranked}
 use Rattle.line_generator.proofs.summary.push_summary.Goals as goal
 
 -- a text to which pieces are appended one after the other, and all at once
 joined : (text a b c d e f : List ℕ) → text ++ a ++ b ++ c ++ d ++ e ++ f ≡ text ++ (a ++ b ++ c ++ d ++ e ++ f)
 joined text a b c d e f = simp (append_assoc {A = ℕ}) refl
 
-one_of_both : (b : Bool) → cond b 1 0 + cond (not b) 1 0 ≡ 1
-one_of_both true = refl
-one_of_both false = refl
-
--- those that don't are all but those that do
-others : {X : Type 0} (p : X → Bool) (xs : List X) → count_by p xs + count_by (λ x. not (p x)) xs ≡ length xs
-others p [] = refl
-others p (x ∷ xs) =
-    let a = sum_by-cons (λ y. cond (p y) 1 0) x xs in let b = sum_by-cons (λ y. cond (not (p y)) 1 0) x xs in
-    let c = one_of_both (p x) in let d = others p xs in omega (arith, a, b, c, d)
-
 pub returns : goal.returns
 unfolding summary_of
 returns c = λ lines kept.
     let out = c.args.out.now.items in
-    let calls : c.total_of-calls.result.calls ≡ length lines = c.total_of-calls.ensures.calls ∙ kept.count in
-    let successes : c.total_of-calls.result.successes ≡ count_by is_success lines = c.total_of-calls.ensures.successes ∙ kept.successes in
-    let refusals : c.saturating_sub.result ≡ count_by (λ (line : ReplyLine). not (is_success line)) lines =
-    (let a = others is_success lines in let b = c.saturating_sub.ensures in omega (arith, a, b, calls, successes)) in
+    let calls : c.counts_of-calls.result.calls ≡ length lines = c.counts_of-calls.ensures.calls ∙ kept.count in
+    let successes : c.counts_of-calls.result.successes ≡ count_by is_success lines = c.counts_of-calls.ensures.successes ∙ kept.successes in
+    let refusals = c.refusals_of.ensures Unranked lines kept in
     let digest = ap sha256 kept.text in
     let counts = onto _ _ _ _ c.in_ok-push_count-3.ensures (onto _ _ _ _ c.in_ok-push_count-2.ensures c.in_ok-push_count.ensures) in
     let told = onto _ _ _ _ c.in_ok-extend_from_slice-2.ensures.items (onto _ _ _ (codes "sha256 ") c.in_ok-extend_from_slice.ensures.items counts) in
@@ -32,4 +21,4 @@ returns c = λ lines kept.
     ∙ joined out _ _ _ (codes "sha256 ") _ (codes "\n")
     ∙ (λ j. out ++ (count_line (codes "calls ") (calls j) ++ count_line (codes "successes ") (successes j)
     ++ count_line (codes "refusals ") (refusals j) ++ codes "sha256 "
-    ++ (c.as_bytes.ensures.value ∙ c.as_str.ensures.value ∙ c.in_ok-digest.ensures ∙ ap encode_lower (c.total_of-calls.ensures.digest ∙ digest)) j ++ codes "\n"))
+    ++ (c.as_bytes.ensures.value ∙ c.as_str.ensures.value ∙ c.in_ok-digest.ensures ∙ ap encode_lower (c.digest_of-digest.ensures ∙ digest)) j ++ codes "\n"))

@@ -12,7 +12,8 @@ returns-in-Ok-replies-clause-ends g c = λ given left named.
     (answered_ends g.D.Disk g.A.Devices g.C.Admission given left c.args.disk c.args.devices (commands.Generate c.args.count) ran.disk ran.devices c.write_summary_of.result _ _ a.replies
     (of_answered g.D.Disk g.A.Devices g.C.Admission given left c.args.disk c.args.devices (commands.Generate c.args.count) ran.disk ran.devices (g.C.Admission.labels c.args.rules) _ 1 (record { lines = c.deref.result.now; owners = None }) a.replies
     named refl refl (ap (λ ls. record { lines = ls; owners = None }) (c.deref.ensures.value ∙ c.in-Ok.ensures.lines)) a.answered)
-    (c.write_summary_of.ensures.written a.replies (subst (λ k. AreAllKept Unranked k a.replies) (sym c.deref-in-Ok-replies.ensures.value) a.all)))
+    (c.write_summary_of.ensures.written a.replies (subst (λ k. AreAllKept Unranked k a.replies) (sym c.deref-in-Ok-replies.ensures.value) a.all))
+    (c.write_summary_of.ensures.counted Unranked a.replies (subst (λ k. AreAllKept Unranked k a.replies) (sym c.deref-in-Ok-replies.ensures.value) a.all)))
 
 pub returns-clause-ends : goal.returns-clause-ends
 returns-clause-ends g c = λ given left named.

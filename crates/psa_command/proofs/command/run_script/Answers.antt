@@ -1,7 +1,8 @@
 use Rattle.std.proofs.Common.{None, Option, Some, ap, flat_map, refl, subst, sym, ◌∙◌}
-use Rattle.psa_command.proofs.{Common.AreAnswered, Common.IsUnanswered, Common.IsWritten, Common.MatchResult-at_err, Common.MatchResult-at_ok, Common.Replies, Common.names_by, Causes.answered_ends, Causes.numbered, Causes.of_answered, Causes.of_unanswered}
+use Rattle.psa_command.proofs.{Common.AreAllKept, Common.AreAnswered, Common.IsUnanswered, Common.IsWritten, Common.MatchResult-at_err, Common.MatchResult-at_ok, Common.Replies, Common.names_by, Causes.answered_ends, Causes.numbered, Causes.of_answered, Causes.of_unanswered}
 use Rattle.session_host.specs.Runs.{AreNumbered}
 use Rattle.command_words.specs.declared.command.Command.TheVariants as commands
+use Rattle.script_lang.specs.declared.replies.ReplyForm.TheVariants.{Ranked}
 use Rattle.psa_command.proofs.command.run_script.Goals as goal
 
 pub answer_lines-run-requires-clause-owners : goal.answer_lines-run-requires-clause-owners
@@ -20,7 +21,7 @@ returns-in-Ok-replies-clause-ends g c = λ given named.
     (answered_ends g.D.Disk g.A.Devices g.C.Admission given left c.args.disk c.args.devices (commands.Run c.args.options.now) ran.disk ran.devices c.write_replies.result _ _ a.replies
     (of_answered g.D.Disk g.A.Devices g.C.Admission given left c.args.disk c.args.devices (commands.Run c.args.options.now) ran.disk ran.devices labels seed workers c.in-Ok.script a.replies
     named refl refl c.in-Ok.ensures.calls answered)
-    written)
+    written (c.write_replies.ensures.counted Ranked a.replies (subst (λ k. AreAllKept Ranked k a.replies) (sym c.deref.ensures.value) a.all)))
 
 pub returns-clause-ends : goal.returns-clause-ends
 returns-clause-ends g c = λ given named.

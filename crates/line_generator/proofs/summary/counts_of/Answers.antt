@@ -1,7 +1,6 @@
-use Rattle.std.proofs.Common.{[], ap, ap₂, arith, flat_map, get_or, subst, sym, take, ◌++◌, ◌+◌, ◌∙◌, ◌∷◌}
-use Rattle.line_generator.proofs.Common.{append-nil, flat_map-append, Holds256, sum_by_more, take_more}
-use Rattle.script_lang.specs.declared.replies.Replies.{Replies}
-use Rattle.line_generator.proofs.summary.total_of.Goals as goal
+use Rattle.std.proofs.Common.{ap, ap₂, arith, sym, ◌+◌, ◌∙◌}
+use Rattle.line_generator.proofs.Common.{sum_by_more}
+use Rattle.line_generator.proofs.summary.counts_of.Goals as goal
 
 pub overflow_add-calls : goal.overflow_add-calls
 overflow_add-calls c = let a = c.loop-own.invariant.few_calls in let b = c.wide-calls.ensures.few in let d = c.requires in let e = c.loop-own-test.true in grind (arith)
@@ -12,14 +11,9 @@ overflow_add-successes c = let a = c.loop-own.invariant.few_successes in let b =
 pub loop-own-preserved : goal.loop-own-preserved
 loop-own-preserved c =
     let v = c.loop-own.invariant in let i = c.loop-own.own-index in let all = c.args.replies.now in let own = c.own-item.result in
-    let within = c.loop-own-test.true in let is = c.own-item.is in
-    let text = λ (k : Replies). k.text.items in record {
+    let within = c.loop-own-test.true in let is = c.own-item.is in record {
       calls = ap₂ (λ a b. a + b) v.calls (c.wide-calls.ensures.same ∙ ap (λ k. k.count) is) ∙ sym (sum_by_more (λ k. k.count) all i own within);
       successes = ap₂ (λ a b. a + b) v.successes (c.wide-successes.ensures.same ∙ ap (λ k. k.successes) is) ∙ sym (sum_by_more (λ k. k.successes) all i own within);
-      text = subst (Holds256 c.update.new.self)
-          (ap (λ t. flat_map text (take i all) ++ t) (c.as_slice.ensures.value ∙ (ap text is ∙ sym (append-nil (text (get_or all i own)))))
-          ∙ (sym (flat_map-append text (take i all) (get_or all i own ∷ [])) ∙ ap (flat_map text) (sym (take_more all i own within))))
-          (c.update.ensures (flat_map text (take i all)) v.text);
       few_calls = let a = v.few_calls in let b = c.wide-calls.ensures.few in omega arith;
       few_successes = let a = v.few_successes in let b = c.wide-successes.ensures.few in omega arith;
     }
