@@ -24,3 +24,13 @@ pub fn numbered_script<'a>(
     }
     Ok(out)
 }
+
+#[test]
+fn names_become_numbers(rt: HostRuntime) {
+    let text = b"# usage=EXPORT\n1 import k type=AES usage=EXPORT,ENCRYPT alg=GCM/12 data=\"hello world\" life=PERSISTENT\r\n1 mac_compute $k alg=CMAC data=00";
+    let wanted = b"# usage=EXPORT\n1 import k type=2400 usage=101 alg=54c0200 data=68656c6c6f20776f726c64 life=1\r\n1 mac_compute $k alg=3c00200 data=00";
+    match numbered_script(rt.alloc(), &[], text) {
+        Ok(out) => assert!(rt; out.as_slice() == wanted.as_slice()),
+        Err(_) => assert!(rt; false),
+    }
+}
