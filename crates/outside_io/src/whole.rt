@@ -10,7 +10,7 @@ use std::alloc::Global;
 const TEXT_LIMIT: usize = 4194304;
 
 /// How many bytes are asked for at once.
-const PIECE: usize = 65536;
+const PIECE: usize = 32768;
 
 /// Why no text was read: it has more than 4 MiB, the source failed, or there was no memory.
 #[derive(Clone, Copy, Debug, PartialEq, Eq, Drop)]

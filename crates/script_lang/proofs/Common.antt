@@ -10,6 +10,8 @@ unfoldable pub use Rattle.script_lang.specs.Lines.{call_line, is_name, key_at, l
 unfoldable pub use Rattle.script_lang.specs.Numbers.{number_from}
 pub use Rattle.script_lang.specs.{Outside.AreBadAfter, Outside.AreBadFields, Outside.AreBadFixed, Outside.AreBadWords, Outside.IsBadCommand, Outside.IsBadField, Outside.IsBadFixed, Outside.IsBadOwner, Outside.IsBadValue, Outside.IsFault, Pieces.begins_with, Pieces.cut_of, Pieces.ended, Pieces.line_words, Pieces.onto_first, Pieces.pieces, Pieces.text_lines, Pieces.without_return, Pieces.words}
 unfoldable pub use Rattle.script_lang.specs.Replies.{reply_text, unranked_text}
+pub use Rattle.script_lang.specs.Names.{place_by, place_in}
+unfoldable pub use Rattle.script_lang.specs.Names.{earlier_in}
 unfoldable pub use Rattle.script_lang.specs.Sessions.{places_of}
 pub use Rattle.script_lang.specs.{declared.commands.Kind.Kind, declared.faults.LineError.LineError, declared.faults.Reason.Reason, declared.faults.ScriptFault.ScriptFault, declared.faults.ScriptFault.TheVariants.BadLine, declared.faults.ScriptFault.TheVariants.TooLong, declared.faults.ScriptFault.TheVariants.TooManyLines, declared.fields.Field.Field, declared.fields.FieldValue.FieldValue}
 pub use Rattle.script_lang.specs.declared.faults.Reason.TheVariants.{BadHandle, BadKey, BadName, BadOwner, BadSession, BadValue, LateOwner, MissingField, MissingWord, RepeatedField, UnknownCommand, UnknownField, UnknownName}

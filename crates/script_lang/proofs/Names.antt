@@ -15,3 +15,8 @@ inserted {K} {X} bytes name n old new v found others = by (bytes_eq n name) refl
     by true e = ap (λ m. lookup (λ k. bytes_eq m (bytes k)) new) ((bytes_eq-Decides n name).0 e) ∙ found
     by false e = others (λ k. bytes_eq n (bytes k)) (λ x y h. nat_list_eq_equiv.congr n (bytes x) (bytes y) h)
         (λ k h. ap (bytes_eq n) (sym ((bytes_eq-Decides name (bytes k)).0 h)) ∙ e)
+
+-- what is found under a name that was given, where other names are found as before
+pub found_else : {X : Type 0} (b : Bool) (given before after : X) → (b ≡ false → after ≡ before) → cond b given after ≡ cond b given before
+found_else true given before after others = refl
+found_else false given before after others = others refl

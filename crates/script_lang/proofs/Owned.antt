@@ -1,5 +1,5 @@
 -- The owners that a script says are numbered from 0 to 15.
-use Rattle.std.proofs.Common.{List, None, Ok, Option, Some, [], ap, arith, inl, inr, replicate, slice_set, subst, sym, unwrap_or, ℕ, ◌-◌, ◌<◌, ◌∷◌, ◌≡◌, ◌≤◌}
+use Rattle.std.proofs.Common.{List, None, Ok, Option, Some, [], arith, inl, inr, replicate, slice_set, subst, sym, unwrap_or, ℕ, ◌-◌, ◌<◌, ◌∷◌, ◌≡◌, ◌≤◌}
 use Rattle.std.proofs.lemmas.List.Elements.{All-replicate, All-set}
 use Rattle.owner_space.specs.Owners.{owner_count}
 use Rattle.script_lang.proofs.Common.{AreOwners, AreSteps, IsStep, Read, Said, line_words, lines_at, nothing_read}

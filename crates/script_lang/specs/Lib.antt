@@ -5,6 +5,7 @@ pub mod Shapes
 pub mod Fields
 pub mod Commands
 pub mod Lines
+pub mod Names
 pub mod Sessions
 pub mod Grammar
 pub mod Outside

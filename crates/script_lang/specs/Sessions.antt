@@ -1,10 +1,10 @@
 -- What is known of each session while its lines are read.
-use Rattle.std.specs.{Prelude.ℕ, Prelude.◌≡◌, Prelude.Bool, Prelude.false, Prelude.List, Prelude.Option, Prelude.None, Prelude.Some, Prelude.slice_get, Prelude.IfSome, Prelude.length, Str.bytes_eq, HashMap.get_by}
-use Rattle.script_lang.specs.{Lines.Places, Lines.Read, Lines.lines_of, declared.script.ScriptLine.ScriptLine, declared.sessions.SessionNames.SessionNames}
+use Rattle.std.specs.{Prelude.ℕ, Prelude.◌≡◌, Prelude.Bool, Prelude.false, Prelude.List, Prelude.Option, Prelude.None, Prelude.Some, Prelude.slice_get, Prelude.IfSome, Prelude.length}
+use Rattle.script_lang.specs.{Names.place_in, Lines.Places, Lines.Read, Lines.lines_of, declared.script.ScriptLine.ScriptLine, declared.sessions.SessionNames.SessionNames}
 
 -- what the names of a session stand for
 unfoldable pub places_of : SessionNames → Places
-places_of session name = get_by (λ k. bytes_eq name k.items) session.names
+places_of session = place_in session.names
 
 abbrev pub places_in : Option SessionNames → Places
 places_in None = λ name. None

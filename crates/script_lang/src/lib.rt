@@ -15,6 +15,7 @@ mod fields;
 mod fixed;
 mod grammar;
 mod laws;
+mod name_table;
 mod numbers;
 mod operation_commands;
 mod pieces;

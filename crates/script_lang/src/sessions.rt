@@ -3,20 +3,21 @@ ghost use Rattle.std.specs.Prelude.{◌≡◌, ℕ, List, None, OnOk, IfErr, fal
 ghost use Rattle.script_lang.specs.{declared.faults.LineError.TheVariants.Memory, Lines.given_place, Sessions.places_of};
 
 use crate::faults::LineError;
+use crate::name_table::NameTable;
 use crate::script::ByteList;
 use std::alloc::Global;
-use std::collections::HashMap;
 
 /// How many calls of a session were read, at which place among them each name was given last, and whether the session has
 /// stated its owner.
 #[derive(Drop)]
 pub(crate) struct SessionNames {
     pub calls: u32,
-    pub names: HashMap<Vec<u8>, u32>,
+    pub names: NameTable,
     pub stated: bool,
 }
 
 impl SessionNames {
+    #[tactic(auto, unfolding(crate::specs::Sessions::places_of))]
     pub fn new(alloc: Global) -> SessionNames
         ensures calls { result.calls ≡ 0 }
         ensures stated { result.stated ≡ false }
@@ -24,7 +25,7 @@ impl SessionNames {
     {
         SessionNames {
             calls: 0,
-            names: HashMap::new(alloc),
+            names: NameTable::new(alloc),
             stated: false,
         }
     }
@@ -34,7 +35,7 @@ impl SessionNames {
     pub fn place(&self, name: &[u8]) -> Option<u32>
         ensures { result ≡ places_of self.now name.now }
     {
-        self.names.get(name).copied()
+        self.names.place(name)
     }
 
     /// The next line of the session gives a name, where it does.
@@ -46,7 +47,7 @@ impl SessionNames {
         ensures err { IfErr result (λ e. e ≡ Memory) }
     {
         if let Some(name) = name {
-            self.names.insert(name.into_items(), self.calls)?;
+            self.names.give(name, self.calls)?;
         }
         Ok(())
     }

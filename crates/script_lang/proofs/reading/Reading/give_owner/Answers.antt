@@ -1,5 +1,5 @@
-use Rattle.std.proofs.Common.{Some, ap, ap₂, arith, length, refl, replicate, slice_get, slice_set, subst, sym, unwrap_or, ◌-◌, ◌<◌, ◌∙◌, ◌≡◌}
-use Rattle.script_lang.proofs.{Common.AreCounted, Common.read_of, Common.slice_get_read, States.owner_counted, States.owner_read, States.stating}
+use Rattle.std.proofs.Common.{Some, ap, ap₂, arith, length, refl, replicate, slice_set, unwrap_or, ◌-◌, ◌<◌, ◌∙◌, ◌≡◌}
+use Rattle.script_lang.proofs.{Common.read_of, Common.slice_get_read, States.owner_counted, States.owner_read, States.stating}
 use Rattle.script_lang.proofs.reading.Reading.give_owner.Goals as goal
 
 pub returns-clause-owned : goal.returns-clause-owned
